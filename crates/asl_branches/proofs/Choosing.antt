@@ -19,19 +19,17 @@ use Rattle.std.proofs.Common.{
   Some,
   Ok,
   Err,
-  refl,
   sym,
   ap,
   ◌∙◌,
   subst,
-  arith,
 }
 use Rattle.std.proofs.lemmas.List.{at_drop_all}
 use Rattle.asl_bits.specs.declared.TheConstants.{WIDTH_LIMIT}
 use Rattle.asl_syn.specs.declared.token.Span.{Span}
 use Rattle.asl_rules.specs.values.Matching.{is_matched}
 use Rattle.asl_rules.specs.values.Operators.{truth}
-use Rattle.asl_rules.specs.runs.Plans.{Pure, Good, Ret, choose, lift, run}
+use Rattle.asl_rules.specs.runs.Plans.{Ret, choose, lift}
 use Rattle.asl_rules.specs.types.Shapes.{PatternShapes}
 use Rattle.asl_rules.specs.runs.StatementForms.{alternative, alternatives, guarded, no_match, scope}
 use Rattle.asl_rules.specs.runs.Trees as rules
@@ -48,12 +46,11 @@ use Rattle.asl_tree.specs.declared.act.Alternative.{Alternative}
 use Rattle.asl_tree.specs.declared.act.Alternative.TheVariants as when
 use Rattle.asl_tree.specs.declared.act.Choice.{Choice as Wanted}
 use Rattle.asl_tree.specs.declared.act.TreeFunc.{TreeFunc}
-use Rattle.asl_tree.specs.declared.tree.Tree.{Tree as Typed}
 use Rattle.asl_branches.specs.declared.setting.Setting.{Setting}
 use Rattle.asl_branches.specs.declared.stop.Stop.{Stop as Stopped}
 use Rattle.asl_branches.specs.private.Choosing.{chosen, guard}
 use Rattle.asl_branches.specs.Meets.{At, Ran, Underway}
-use Rattle.asl_branches.specs.View.{core_of, exit_of, meaning_of, meter_of}
+use Rattle.asl_branches.specs.View.{core_of, exit_of}
 use Rattle.asl_branches.proofs.Answered.{turn_failed, turned}
 use Rattle.asl_branches.proofs.Fronts.{at_front}
 use Rattle.asl_branches.proofs.Turns.{Goes, all_goes, goes_eval, goes_lift, goes_ret}
@@ -80,12 +77,6 @@ chosen_goes fs d span x ps es e ss go c =
     (λ zs c1. lift (is_matched WIDTH_LIMIT ps zs x) c1 (λ b. choose b (guarded in_bare span e ss go c1) (go c1))) (behind_choice ss go)
     (λ zs c1. goes_lift fs d (is_matched WIDTH_LIMIT ps zs x) c1 (λ b. choose b (guard span e c1) (Ret false c1)) (λ b. choose b (guarded in_bare span e ss go c1) (go c1)) (behind_choice ss go)
     (λ b. matched_goes fs d span e ss go c1 b))
-
--- an alternative without expressions is passed by where the value doesn't match
-pub passed : (span : Span) (x : Value) (ps : PatternShapes) (ts : List Typed) (e : Option Tree) (c : BareCore) → ts ≡ [] →
-    is_matched WIDTH_LIMIT ps [] x ≡ Good false → chosen span x ps (all_trees ts) e c ≡ Ret false c
-passed span x ps [] e c none h = ap (λ (r : Pure Bool). lift r c (λ b. choose b (guard span e c) (Ret false c))) h
-passed span x ps (t ∷ ts) e c none h = cc
 
 -- ---- one by one
 
@@ -144,13 +135,3 @@ pub choices_ended : (h : Setting) (span : Span) (x : Value) (others : List Alter
     Underway h (no_match in_bare span last) a1 q a0
 choices_ended h span x others k last q a0 a1 e u =
     subst (λ us. Underway h (all_from span x us last) a1 q a0) (at_drop_all (λ us. us) others k e) u
-
--- an alternative that is passed by was asked for
-pub passed_by : (h : Setting) (q : BareCore → Runs Bool) (a : At) → q (core_of a.run) ≡ Ret false (core_of a.run) → Ran itself (Ok false) h q a a
-passed_by h q a e = record {
-  meets = ap (λ (p : Runs Bool). run (meaning_of h.funcs.now h.depth) p (meter_of a.run a.told)) e;
-  counts = refl;
-  same_full = refl;
-  keeps = record { handled = refl; callers = refl; slots = refl; live = refl };
-  grows = omega arith;
-}

@@ -1,12 +1,11 @@
 //! `case`.
-ghost use Rattle.std.specs.Prelude.{◌≡◌, IsTrue, false, map};
+ghost use Rattle.std.specs.Prelude.{◌≡◌, false, map};
 ghost use Rattle.asl_bits.specs.declared.TheConstants.{WIDTH_LIMIT};
-ghost use Rattle.asl_syn.specs.declared.token.Span.{Span as At};
 ghost use Rattle.asl_rules.specs.values.Matching as matching;
 ghost use Rattle.asl_rules.specs.runs.Plans.{Ret, choose, lift};
 ghost use Rattle.asl_rules.specs.runs.StatementForms as forms;
 ghost use Rattle.asl_rules.specs.private.TypedMeaning as rules;
-ghost use Rattle.asl_rules.specs.private.TypedMeaning.{BareCore, in_bare, itself};
+ghost use Rattle.asl_rules.specs.private.TypedMeaning.{in_bare, itself};
 ghost use Rattle.asl_shape.specs.View.{all_patterns};
 ghost use Rattle.asl_tree.specs.Acts.{all_alternatives, last_of, maybe_tree};
 ghost use Rattle.asl_tree.specs.View.{tree_of, all_trees};
@@ -22,7 +21,7 @@ use crate::lists::{eval_all, exec_scope};
 use crate::run::Run;
 use crate::stop::{Exit, Stop};
 use asl_io::Sink;
-use asl_shape::{is_matched, misses};
+use asl_shape::is_matched;
 use asl_shared::Held;
 use asl_syn::code::DynCode;
 use asl_syn::token::Span;
@@ -78,9 +77,6 @@ fn exec_alternatives<K: Sink, N: Nodes<K>>(
 {
     for other in case.others {
         let (choice, list) = alternative_parts(other);
-        if is_passed(choice, x) {
-            continue;
-        }
         let it = Pick {
             span: case.span,
             choice,
@@ -90,15 +86,6 @@ fn exec_alternatives<K: Sink, N: Nodes<K>>(
         }
     }
     exec_last(here, run, sink, case.span, case.last)
-}
-
-/// Whether it is seen at once that a value misses what an alternative asks for.
-#[tactic(auto, using(crate::proofs::Choosing::passed))]
-fn is_passed(choice: &Choice, x: &Value) -> bool
-    ensures { IsTrue result → (span : At) (c : BareCore) →
-        chosen span (value_of x.now) (all_patterns choice.now.patterns) (all_trees choice.now.trees) (maybe_tree choice.now.condition) c ≡ Ret false c }
-{
-    choice.trees.is_empty() && misses(choice.patterns.as_slice(), x)
 }
 
 /// What an alternative asks for, and its list.

@@ -22,5 +22,4 @@ pub mod Described
 pub mod OneRun
 pub mod Soundness
 pub mod Spans
-pub mod StmtUses
 pub mod certificates

@@ -317,9 +317,3 @@ pub answered : (r : AtOnce) (x y : Value) (fs : List TreeFunc) (d : ℕ) (e : Ty
 answered r x y fs d e s n1 told is same f =
     subst (λ (o : Option Value). Finds o fs d e s s.steps n1) is (f fs) told ∙
     ap (λ (z : Value). Done z (core_of s) (meter_at n1 told s)) (sym same)
-
--- so it is with a value that was found where it stands
-pub stands : (o : Option Value) (y : Value) (fs : List TreeFunc) (d : ℕ) (e : TypedTree) (s : Run) (n1 : ℕ) (told : Option (List ℕ)) →
-    o ≡ Some y → ((gs : List TreeFunc) → Finds o gs d e s s.steps n1) →
-    (meaning_of fs d).expr (tree_of e) (core_of s) (meter_of s told) ≡ Done y (core_of s) (meter_at n1 told s)
-stands o y fs d e s n1 told is f = subst (λ (o : Option Value). Finds o fs d e s s.steps n1) is (f fs) told

@@ -2,7 +2,7 @@
 //! fields of what is held there, operators, conditionals, slices, and the library's subprograms on these, some levels deep.
 //! What is held in a place is read where it stands, and nothing is built on the way. Where an expression is none of these,
 //! where it has no value, or where a step, a level or memory is wanting, nothing is done: then its node is entered as any other.
-ghost use Rattle.std.specs.Prelude.{◌≡◌, ◌-◌, ◌∷◌, [], ℕ, Bool, List, option_map};
+ghost use Rattle.std.specs.Prelude.{◌≡◌, ◌-◌, ◌∷◌, [], Bool, List, option_map};
 ghost use Rattle.std.specs.Option.{option_copied};
 ghost use Rattle.asl_bits.specs.declared.TheConstants.{WIDTH_LIMIT};
 ghost use Rattle.asl_syn.specs.declared.token.Span.{Span as At};
@@ -38,7 +38,7 @@ use asl_rules::slot::Slot;
 use asl_shape::Routine;
 use asl_syn::tree::{BinaryOperator, UnaryOperator};
 use asl_tree::tree::{Callee, Tree};
-use asl_value::{SliceShape, Value, copy};
+use asl_value::{SliceShape, Value};
 use asl_vector::Vector;
 use std::alloc::Global;
 
@@ -726,43 +726,6 @@ fn evaluate(run: &Run, left: &mut u64, reach: Reach, e: &Tree) -> AtOnce
         levels: reach.levels - 1,
     };
     node(run, left, below, e)
-}
-
-/// Whether an expression is an element or a field, whose value may stand in a place already.
-pub fn is_part(e: &Tree) -> bool {
-    match e {
-        Tree::Field(_, _, _) => true,
-        Tree::Element(_, _, _) => true,
-        // any other has a value of its own
-        _ => false,
-    }
-}
-
-/// A copy of what stands where a way of elements and fields ends, where `depth` nodes more may be open, and the steps that are
-/// left; none where the expression is no such way.
-pub fn part_there(alloc: Global, run: &Run, left: &mut u64, depth: u32, e: &Tree) -> Option<Value>
-    ensures { (fs : List TreeFunc) → Finds (option_map value_of result) fs depth e.now run.now left.old left.new }
-{
-    let reach = Reach {
-        alloc,
-        depth,
-        levels: LEVELS,
-    };
-    copied(reached(run, left, reach, e))
-}
-
-/// A copy of a value that was found, over the same parts; none where memory is wanting.
-fn copied(there: Option<&Value>) -> Option<Value>
-    ensures { (fs : List TreeFunc) (d : ℕ) (e : TypedTree) (s : State) (n m : ℕ) →
-        Finds (option_map value_of (option_copied there.entry)) fs d e s n m → Finds (option_map value_of result) fs d e s n m }
-{
-    match there {
-        Some(value) => match copy(value) {
-            Ok(same) => Some(same),
-            Err(_) => None,
-        },
-        None => None,
-    }
 }
 
 /// What an expression gives where `depth` nodes more may be open, and the steps that are left.

@@ -11,7 +11,7 @@ ghost use Rattle.asl_branches.specs.Meets.{Answers, Evaluates, Executes, RanBy, 
 ghost use Rattle.asl_branches.specs.View.{core_of, cutting_of, exit_of, meaning_of, meter_of, room_of};
 
 use crate::acts_at_once::executed;
-use crate::at_once::{AtOnce, evaluated, is_part, part_there};
+use crate::at_once::{AtOnce, evaluated};
 use crate::exprs::eval_node;
 use crate::level::Level;
 use crate::places::read;
@@ -37,15 +37,6 @@ pub fn eval<K: Sink>(here: Setting, run: &mut Run, sink: &mut K, e: &Tree) -> Re
         return enter_read(here, run, note.span, *slot);
     }
     let mut left = run.steps;
-    if is_part(e) {
-        return match part_there(here.alloc, run, &mut left, here.depth, e) {
-            Some(x) => {
-                run.steps = left;
-                Ok(x)
-            }
-            None => enter_expr(here, run, sink, e),
-        };
-    }
     match evaluated(here.alloc, run, &mut left, here.depth, e) {
         AtOnce::Integer(z) => {
             run.steps = left;

@@ -22,7 +22,7 @@ use Rattle.asl_value.proofs.Among.{at_front, none_after}
 use Rattle.asl_shape.specs.declared.matching.Matched.{Matched}
 use Rattle.asl_shape.specs.declared.shapes.PatternShape.{PatternShape}
 use Rattle.asl_shape.specs.private.Arguments.{integer_in}
-use Rattle.asl_shape.specs.private.Matched.{held_with, values_from, matched_at, integer_in_front}
+use Rattle.asl_shape.specs.private.Matched.{values_from, matched_at, integer_in_front}
 use Rattle.asl_shape.specs.View.{pattern_of, all_patterns}
 
 -- ---- one of some patterns
@@ -131,15 +131,6 @@ mask_none span ms bs u zs h = by (length ms == length bs) refl
     by : (t : Bool) → (length ms == length bs) ≡ t → mask_match span ms (values.bits_with bs u) zs ≡ Bad (Stuck WrongKind span)
     by true e = let f : None ≡ Some (mask_matches ms bs) = h ∙ ap (λ t. cond t (Some (mask_matches ms bs)) None) e in cc
     by false e = rw e refl
-
--- a pattern alone that a value misses
-pub one_missed : (limit : ℕ) (ps : List PatternShape) (p : PatternShape) (x : values.Value) (zs : List values.Value) → length ps ≡ 1 → p ≡ get_or ps 0 p →
-    rules.matches limit (pattern_of p) x zs ≡ Good (held_with zs false) → is_matched limit (all_patterns ps) zs x ≡ Good false
-one_missed limit [] p x zs one here h = absurd (omega (arith, one))
-one_missed limit (q ∷ []) p x zs one here h =
-    ap (λ t. is_matched limit (shapes.pattern_and (pattern_of t) shapes.no_pattern) zs x) (sym here) ∙ one_pattern limit (pattern_of p) x zs
-    ∙ ap (λ r. r >>= λ m. Good m.holds) h
-one_missed limit (q ∷ r ∷ ps) p x zs one here h = absurd (omega (arith, one))
 
 -- ---- the value in front
 

@@ -21,7 +21,7 @@ pub use belonging::belongs;
 pub use constructing::construct;
 pub use firsts::first_value;
 pub use library::routine;
-pub use matching::{is_matched, matched_in, misses};
+pub use matching::{is_matched, matched_in};
 pub use routines::{Routine, routine_named};
 pub use shapes::{BitfieldShape, FieldGiven, PartShape, PatternShape, TypeShape};
 pub use widths::{params_of, width_of_bits, widths_of};

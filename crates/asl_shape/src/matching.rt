@@ -1,5 +1,5 @@
 //! Whether values match patterns.
-ghost use Rattle.std.specs.Prelude.{◌≡◌, ◌<◌, ◌&&◌, IsTrue, List, false, map, length, OnSome};
+ghost use Rattle.std.specs.Prelude.{◌≡◌, ◌<◌, ◌&&◌, List, map, length, OnSome};
 ghost use Rattle.asl_bits.specs.declared.TheConstants.{WIDTH_LIMIT};
 ghost use Rattle.asl_rules.specs.runs.ByNames.{matched_in as matched_in_one};
 ghost use Rattle.asl_rules.specs.types.Closed.{not_above};
@@ -7,11 +7,11 @@ ghost use Rattle.asl_rules.specs.values.Matching as rules;
 ghost use Rattle.asl_rules.specs.runs.Plans.{Good};
 ghost use Rattle.asl_rules.specs.values.Structures.{values_in};
 ghost use Rattle.asl_rules.specs.types.Shapes.{in_parts};
-ghost use Rattle.asl_rules.specs.values.Values.{Value as Given, int};
+ghost use Rattle.asl_rules.specs.values.Values.{int};
 ghost use Rattle.asl_value.specs.declared.value.Value.{Value};
 ghost use Rattle.asl_value.specs.private.Answers.{Is};
 ghost use Rattle.asl_value.specs.View.{value_of, all_values, digits_of};
-ghost use Rattle.asl_shape.specs.private.Matched.{held_with, matched_at, values_from, integer_in_front, are_equal};
+ghost use Rattle.asl_shape.specs.private.Matched.{matched_at, values_from, integer_in_front, are_equal};
 ghost use Rattle.asl_shape.specs.View.{pattern_of, all_patterns};
 
 use crate::arguments::integer_in;
@@ -42,32 +42,6 @@ pub fn is_matched(
 {
     let m = any_matches(alloc, patterns, x, values, 0)?;
     Ok(m.holds)
-}
-
-/// Whether bits are seen at once to miss patterns: that is one mask alone, as most alternatives of a decoder have. Where this is
-/// `false`, nothing is said.
-#[tactic(auto, using(crate::proofs::Patterns::one_missed))]
-pub fn misses(patterns: &[PatternShape], x: &Value) -> bool
-    ensures { IsTrue result → (zs : List Given) →
-        rules.is_matched WIDTH_LIMIT (all_patterns patterns.now) zs (value_of x.now) ≡ Good false }
-{
-    patterns.len() == 1 && one_misses(&patterns[0], x)
-}
-
-/// Whether bits are seen at once to miss a pattern.
-#[tactic(auto, using(crate::proofs::Patterns::mask_some))]
-fn one_misses(pattern: &PatternShape, x: &Value) -> bool
-    ensures { IsTrue result → (zs : List Given) →
-        rules.matches WIDTH_LIMIT (pattern_of pattern.now) (value_of x.now) zs ≡ Good (held_with zs false) }
-{
-    match (pattern, x) {
-        (PatternShape::Masked(_, mask), Value::Bits(bits, _)) => match mask.matches(bits) {
-            Some(holds) => !holds,
-            None => false,
-        },
-        // any other is asked with its values
-        _ => false,
-    }
 }
 
 /// Whether a value matches a pattern, as a value, with the values of the expressions in it, in order.

@@ -1,6 +1,5 @@
 //! A value with several owners.
-ghost use Rattle.std.specs.Prelude.{◌≡◌, IfOk, IfSome, MatchResult};
-ghost use Rattle.std.specs.Borrow.{sem};
+ghost use Rattle.std.specs.Prelude.{◌≡◌, IfOk, MatchResult};
 
 use std::alloc::{AllocError, Global};
 use std::marker::Model;
@@ -21,21 +20,11 @@ impl<T> Model for Shared<T> {
 }
 
 impl<T> Shared<T> {
-    ghost use Rattle.asl_shared.specs.Lends.{lends_only};
-
     /// The value.
     pub fn get(&self) -> &T
         ensures { result.now ≡ self.now }
     {
         self.inner.as_ref()
-    }
-
-    /// The value for writing, where this is its only owner.
-    pub fn get_mut(&mut self) -> Option<&mut T>
-        ensures* writes_back { sem 𝓛 (lends_only T.row self.entry result) }
-        ensures value { IfSome result (λ x. x.now ≡ self.old) }
-    {
-        Rc::get_mut(&mut self.inner)
     }
 
     /// The value itself, where this is its only owner, and else the owner back.

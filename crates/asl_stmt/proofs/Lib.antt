@@ -1,3 +1,2 @@
 pub mod Walked
 pub mod ListTurns
-pub mod Reported

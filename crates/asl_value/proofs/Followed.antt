@@ -34,12 +34,12 @@ kept : {A B : Type 0} (f : A → B) (o : Option A) → is_some o ≡ is_some (op
 kept f None = refl
 kept f (Some x) = refl
 
-pub same_fields : (i : ℕ) (r : Value) (xs : FieldValues) → is_some (field_at i xs) ≡ is_some (with_field_at i r xs)
+same_fields : (i : ℕ) (r : Value) (xs : FieldValues) → is_some (field_at i xs) ≡ is_some (with_field_at i r xs)
 same_fields i r no_value_of = refl
 same_fields zero r (value_of_field f x xs) = refl
 same_fields (suc i) r (value_of_field f x xs) = same_fields i r xs ∙ kept (value_of_field f x) (with_field_at i r xs)
 
-pub same_values : (i : ℕ) (r : Value) (xs : Values) → is_some (value_at i xs) ≡ is_some (with_value_at i r xs)
+same_values : (i : ℕ) (r : Value) (xs : Values) → is_some (value_at i xs) ≡ is_some (with_value_at i r xs)
 same_values i r no_value = refl
 same_values zero r (value x xs) = refl
 same_values (suc i) r (value x xs) = same_values i r xs ∙ kept (value x) (with_value_at i r xs)
@@ -97,26 +97,17 @@ off view (failure.WrongKind span) p f h = ap (λ q. q >>= f) h
 off view (failure.UnknownType span) p f h = ap (λ q. q >>= f) h
 off view failure.NoMemory p f h = tt
 
-pub field_off : {A : Type 0} (view : A → Value) (limit : ℕ) (holds : Bool) (e : Failure) (span : Span) (i : ℕ) (ss : List Step) (y x : Value) →
-    Is view (Err e) (field_in span i x) → Reaches (Err e) (updated limit holds (into_field span i ∷ ss) y x)
-field_off view limit holds e span i ss y x h = off view e (field_in span i x) (λ a. updated limit holds ss y a >>= λ r. with_field_in span i r x) h
+pub field_off : (limit : ℕ) (holds : Bool) (e : Failure) (span : Span) (i : ℕ) (ss : List Step) (y x : Value) → Is value_of (Err e) (field_in span i x) → Reaches (Err e) (updated limit holds (into_field span i ∷ ss) y x)
+field_off limit holds e span i ss y x h = off value_of e (field_in span i x) (λ a. updated limit holds ss y a >>= λ r. with_field_in span i r x) h
 
-pub element_off : {A : Type 0} (view : A → Value) (limit : ℕ) (holds : Bool) (e : Failure) (span : Span) (z : Value) (ss : List Step) (y x : Value) →
-    Is view (Err e) (element_of span x z) → Reaches (Err e) (updated limit holds (into_element span z ∷ ss) y x)
-element_off view limit holds e span z ss y x h = off view e (element_of span x z) (λ a. updated limit holds ss y a >>= λ r. with_element span r x z) h
+pub element_off : (limit : ℕ) (holds : Bool) (e : Failure) (span : Span) (z : Value) (ss : List Step) (y x : Value) → Is value_of (Err e) (element_of span x z) → Reaches (Err e) (updated limit holds (into_element span z ∷ ss) y x)
+element_off limit holds e span z ss y x h = off value_of e (element_of span x z) (λ a. updated limit holds ss y a >>= λ r. with_element span r x z) h
 
 pub made_off : (e : Failure) (p : Pure Value) → Is value_of (Err e) p → Reaches (Err e) p
 made_off (failure.Fault code span) p h = h
 made_off (failure.WrongKind span) p h = h
 made_off (failure.UnknownType span) p h = h
 made_off failure.NoMemory p h = tt
-
--- it is the same whatever an answer would stand for
-pub same_failure : {A B C : Type 0} (v : A → C) (w : B → C) (e : Failure) (p : Pure C) → Is v (Err e) p → Is w (Err e) p
-same_failure v w (failure.Fault code span) p h = h
-same_failure v w (failure.WrongKind span) p h = h
-same_failure v w (failure.UnknownType span) p h = h
-same_failure v w failure.NoMemory p h = tt
 
 -- what fails changes nothing
 pub unchanged : (e : Failure) (p : Pure Value) (old : code.Value) → Reaches (Err e) p → Changes (Err e) p old old

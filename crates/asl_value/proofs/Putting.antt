@@ -1,21 +1,19 @@
 -- Values with others in their places.
-use Rattle.std.proofs.Common.{◌≡◌, ℕ, zero, suc, ◌<◌, ◌≤◌, Bool, true, false, true≢false, cond, List, [], ◌∷◌, length, get_or, Option, Some, None, refl, sym, ap, ◌∙◌, arith}
+use Rattle.std.proofs.Common.{◌≡◌, ℕ, zero, suc, ◌<◌, Bool, true, false, cond, List, [], ◌∷◌, length, get_or, Option, Some, None, refl, sym, ap, ◌∙◌, arith}
 use Rattle.std.specs.Prelude.{ℤ, pos, negsuc, option_map, slice_set, nat_lt}
-use Rattle.std.specs.Option.{is_some}
 use Rattle.asl_syn.specs.declared.token.Span.{Span}
 use Rattle.asl_syn.specs.declared.code.DynCode.TheVariants.{D06}
 use Rattle.asl_rules.specs.values.Values as rules
 use Rattle.asl_rules.specs.values.Values.{Values, FieldValues, no_value_of, value_of_field, no_value, value}
 use Rattle.asl_rules.specs.runs.Pures.{◌>>=◌, there}
 use Rattle.asl_rules.specs.values.Structures.{value_at, with_value_at, inside}
-use Rattle.asl_rules.specs.runs.Plans.{Faulted, Stuck, WrongKind, Good, Bad}
+use Rattle.asl_rules.specs.runs.Plans.{Faulted, Good, Bad}
 use Rattle.asl_value.specs.declared.value.Value.{Value}
 use Rattle.asl_value.specs.declared.value.FieldValue.{FieldValue}
 use Rattle.asl_rules.specs.private.ByPlace.{Step, field_at, with_field_at, updated}
 use Rattle.asl_value.specs.private.Reaching.{index_in, put_into_fields, put_into_elements}
 use Rattle.asl_value.specs.View.{value_of, field_of, all_values, all_fields}
-use Rattle.asl_value.proofs.Elements.{field_none, value_past}
-use Rattle.asl_value.proofs.Followed.{same_fields, same_values}
+use Rattle.asl_value.proofs.Elements.{value_past}
 
 -- ---- lists with another item
 
@@ -85,33 +83,3 @@ elements_none limit holds span (pos k) ss y xs h = by (nat_lt k (length xs)) ref
     by : (b : Bool) → nat_lt k (length xs) ≡ b → cond b (Some k) None ≡ None → put_into_elements limit holds span (pos k) ss y (all_values xs) ≡ Bad (Faulted D06 span)
     by true e g = cc
     by false e g = ap (λ o. inside span o >>= λ q. updated limit holds ss y q >>= λ r. inside span (with_value_at k r (all_values xs))) (value_past xs k (grind arith))
-
--- ---- a place that takes nothing of what stood there
-
-pub fields_past : (limit : ℕ) (holds : Bool) (span : Span) (i : ℕ) (ss : List Step) (y : rules.Value) (xs : List FieldValue) → length xs ≤ i →
-    put_into_fields limit holds span i ss y (all_fields xs) ≡ Bad (Stuck WrongKind span)
-fields_past limit holds span i ss y xs h =
-    ap (λ p. p >>= λ q. updated limit holds ss y q >>= λ r. there span (with_field_at i r (all_fields xs))) (field_none span xs i h)
-
-pub values_past : (limit : ℕ) (holds : Bool) (span : Span) (i : ℕ) (ss : List Step) (y : rules.Value) (xs : List Value) → length xs ≤ i →
-    put_into_elements limit holds span (pos i) ss y (all_values xs) ≡ Bad (Faulted D06 span)
-values_past limit holds span i ss y xs h =
-    ap (λ o. inside span o >>= λ q. updated limit holds ss y q >>= λ r. inside span (with_value_at i r (all_values xs))) (value_past xs i h)
-
-pub field_whole : (limit : ℕ) (span : Span) (i : ℕ) (y : rules.Value) (xs zs : FieldValues) → with_field_at i y xs ≡ Some zs →
-    put_into_fields limit false span i [] y xs ≡ Good zs
-field_whole limit span i y xs zs e = given (field_at i xs) (same_fields i y xs ∙ ap (λ o. is_some o) e) ∙ ap (there span) e
-  where
-    given : (o : Option rules.Value) → is_some o ≡ true → (there span o >>= λ q. updated limit false [] y q >>= λ r. there span (with_field_at i r xs)) ≡ there span (with_field_at i y xs)
-    given None h = absurd (true≢false (sym h))
-    given (Some q) h = refl
-
-pub value_whole : (limit : ℕ) (span : Span) (i : ℕ) (y : Value) (xs zs : List Value) → i < length xs → zs ≡ slice_set xs i y →
-    put_into_elements limit false span (pos i) [] (value_of y) (all_values xs) ≡ Good (all_values zs)
-value_whole limit span i y xs zs within e =
-    let done : with_value_at i (value_of y) (all_values xs) ≡ Some (all_values zs) = value_set xs zs i y within e in
-    given (value_at i (all_values xs)) (same_values i (value_of y) (all_values xs) ∙ ap (λ o. is_some o) done) ∙ ap (inside span) done
-  where
-    given : (o : Option rules.Value) → is_some o ≡ true → (inside span o >>= λ q. updated limit false [] (value_of y) q >>= λ r. inside span (with_value_at i r (all_values xs))) ≡ inside span (with_value_at i (value_of y) (all_values xs))
-    given None h = absurd (true≢false (sym h))
-    given (Some q) h = refl

@@ -28,20 +28,8 @@ pub enum Shell {
 }
 
 /// The element of an array at an index, over the same parts: D06 where there is none.
-#[tactic(auto, using(crate::proofs::Followed::same_failure))]
 pub fn element_of(span: Span, array: &Value, index: &Value) -> Result<Value, Failure>
     ensures { Is value_of result (rules.element_of span (value_of array.now) (value_of index.now)) }
-{
-    Ok(copy(element_in(span, array, index)?)?)
-}
-
-/// The element of an array at an index, where it stands: D06 where there is none.
-pub(crate) fn element_in<'v>(
-    span: Span,
-    array: &'v Value,
-    index: &Value,
-) -> Result<&'v Value, Failure>
-    ensures { Is (λ x. value_of x.now) result (rules.element_of span (value_of array.now) (value_of index.now)) }
 {
     match (array, index) {
         (Value::Array(kind, elements), Value::Int(i)) => {
@@ -53,17 +41,12 @@ pub(crate) fn element_in<'v>(
 
 /// The element at an index of an array with elements of this kind: D06 where there is none.
 #[tactic(auto, using(crate::proofs::Elements::element_there, crate::proofs::Elements::element_none))]
-fn element_at<'v>(
-    span: Span,
-    kind: &Kind,
-    elements: &'v [Value],
-    index: i128,
-) -> Result<&'v Value, Failure>
-    ensures { Is (λ x. value_of x.now) result
+fn element_at(span: Span, kind: &Kind, elements: &[Value], index: i128) -> Result<Value, Failure>
+    ensures { Is value_of result
         (rules.element_of span (array_with (kind_of kind.now) (all_values elements.now)) (int index)) }
 {
     match index_in(index, elements.len()) {
-        Some(at) => Ok(&elements[at]),
+        Some(at) => Ok(copy(&elements[at])?),
         None => Err(Failure::Fault(DynCode::D06, span)),
     }
 }
@@ -84,42 +67,13 @@ pub(crate) fn index_in(index: i128, count: usize) -> Option<usize>
 }
 
 /// The field of a record or an exception in a place, from 0, over the same parts.
-#[tactic(auto, using(crate::proofs::Followed::same_failure))]
 pub fn field_in(span: Span, place: usize, value: &Value) -> Result<Value, Failure>
     ensures { Is value_of result (places.field_in span place (value_of value.now)) }
 {
-    Ok(copy(field_within(span, place, value)?)?)
-}
-
-/// The field of a record or an exception in a place, from 0, where it stands.
-pub(crate) fn field_within(span: Span, place: usize, value: &Value) -> Result<&Value, Failure>
-    ensures { Is (λ x. value_of x.now) result (places.field_in span place (value_of value.now)) }
-{
     match value {
-        Value::Record(_, fields) => field_there(span, place, fields.get().as_slice()),
-        Value::Exception(_, _, _, fields) => { field_there(span, place, fields.get().as_slice()) }
+        Value::Record(_, fields) => field_at(span, place, fields.get().as_slice()),
+        Value::Exception(_, _, _, fields) => field_at(span, place, fields.get().as_slice()),
         _ => Err(Failure::WrongKind(span)),
-    }
-}
-
-/// The value of the field in a place, where it stands.
-#[tactic(auto, using(crate::proofs::Elements::field_there, crate::proofs::Elements::field_none))]
-fn field_there(span: Span, place: usize, fields: &[FieldValue]) -> Result<&Value, Failure>
-    ensures { Is (λ x. value_of x.now) result (there span (places.field_at place (all_fields fields.now))) }
-{
-    if place < fields.len() {
-        Ok(value_in(&fields[place]))
-    } else {
-        Err(Failure::WrongKind(span))
-    }
-}
-
-/// The value of a field.
-fn value_in(field: &FieldValue) -> &Value
-    ensures { value_of result.now ≡ (field_of field.now).value }
-{
-    match field {
-        FieldValue::Given(_, value) => value,
     }
 }
 

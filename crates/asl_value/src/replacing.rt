@@ -1,5 +1,5 @@
 //! Parts of values replaced: in place where they have one owner, and else in a copy of their list, over the same parts.
-ghost use Rattle.std.specs.Prelude.{◌≡◌, ◌<◌, ◌∷◌, [], false, map, pos, length, slice_set, IfOk, OnOk};
+ghost use Rattle.std.specs.Prelude.{◌≡◌, ◌<◌, ◌∷◌, map, pos, length, IfOk, OnOk};
 ghost use Rattle.asl_rules.specs.values.Structures as rules;
 ghost use Rattle.asl_value.specs.private.Answers.{Is, Changes};
 ghost use Rattle.asl_value.specs.private.Forms.{all_steps};
@@ -12,7 +12,7 @@ ghost use Rattle.asl_value.specs.View.{value_of, field_of, all_values, all_field
 
 use crate::failure::Failure;
 use crate::keeping::adopt;
-use crate::parts::{element_in, field_at, field_within, index_in};
+use crate::parts::{element_of, field_at, field_in, index_in};
 use crate::slices::{Cuts, SliceShape, slice_places};
 use crate::value::{FieldValue, Value, copy};
 use crate::vectors::{bitfield, bitfields, bits_at, with_bitfield, with_bitfields, with_places};
@@ -152,8 +152,8 @@ fn reach_field(
 ) -> Result<(), Failure>
     ensures { Reaches result (places.updated WIDTH_LIMIT holds_bits (places.into_field span place ∷ all_steps rest.now) (value_of new.now) (value_of value.now)) }
 {
-    let part = field_within(span, place, value)?;
-    reach(alloc, part, rest, holds_bits, new)
+    let part = Held::new(field_in(span, place, value)?);
+    reach(alloc, part.get(), rest, holds_bits, new)
 }
 
 /// Whether there is one behind an element.
@@ -170,8 +170,8 @@ fn reach_element(
 ) -> Result<(), Failure>
     ensures { Reaches result (places.updated WIDTH_LIMIT holds_bits (places.into_element span (value_of index.now) ∷ all_steps rest.now) (value_of new.now) (value_of value.now)) }
 {
-    let part = element_in(span, value, index)?;
-    reach(alloc, part, rest, holds_bits, new)
+    let part = Held::new(element_of(span, value, index)?);
+    reach(alloc, part.get(), rest, holds_bits, new)
 }
 
 /// Whether there is one, which is made for that.
@@ -360,35 +360,13 @@ fn put_in_fields(
     ensures { Is all_fields result
         (put_into_fields WIDTH_LIMIT holds_bits span place (all_steps rest.now) (value_of new) (all_fields fields)) }
 {
-    if rest.is_empty() && !holds_bits {
-        return put_whole_field(alloc, fields, span, place, new);
-    }
     let part = field_at(span, place, fields.get().as_slice())?;
     let part = Held::new(part);
-    let mut fields = fields;
-    set_field(alloc, &mut fields, place, Value::Bool(false))?;
+    let mut owned = into_owned_fields(alloc, fields)?;
+    set_field(&mut owned, place, Value::Bool(false))?;
     let changed = put(alloc, part.into_inner(), rest, holds_bits, new)?;
-    set_field(alloc, &mut fields, place, changed)?;
-    Ok(fields)
-}
-
-/// The fields with another value in a place, where no bits occur in its type: nothing is taken of the one that stood there.
-#[tactic(auto, using(crate::proofs::Putting::fields_past, crate::proofs::Putting::field_whole))]
-fn put_whole_field(
-    alloc: Global,
-    fields: Shared<Items<FieldValue>>,
-    span: Span,
-    place: usize,
-    new: Held<Value>,
-) -> Result<Shared<Items<FieldValue>>, Failure>
-    ensures { Is all_fields result (put_into_fields WIDTH_LIMIT false span place [] (value_of new) (all_fields fields)) }
-{
-    if place >= fields.get().len() {
-        return Err(Failure::WrongKind(span));
-    }
-    let mut fields = fields;
-    set_field(alloc, &mut fields, place, new.into_inner())?;
-    Ok(fields)
+    set_field(&mut owned, place, changed)?;
+    Ok(Shared::new(alloc, owned)?)
 }
 
 /// The array with another value at the end of the steps behind the element at an index.
@@ -448,83 +426,18 @@ fn put_in_place(
     ensures { Is all_values result
         (put_into_elements WIDTH_LIMIT holds_bits span (pos at) (all_steps rest.now) (value_of new) (all_values elements)) }
 {
-    if rest.is_empty() && !holds_bits {
-        return put_whole_element(alloc, elements, span, at, new);
-    }
     let part = value_at(span, at, elements.get().as_slice())?;
     let part = Held::new(part);
-    let mut elements = elements;
-    set_element(alloc, &mut elements, at, Value::Bool(false))?;
+    let mut owned = into_owned(alloc, elements)?;
+    owned.set(at, Value::Bool(false));
     let changed = put(alloc, part.into_inner(), rest, holds_bits, new)?;
-    set_element(alloc, &mut elements, at, changed)?;
-    Ok(elements)
+    owned.set(at, changed);
+    Ok(Shared::new(alloc, owned)?)
 }
 
-/// The elements with another value in a place, where no bits occur in its type: nothing is taken of the one that stood there.
-#[tactic(auto, using(crate::proofs::Putting::values_past, crate::proofs::Putting::value_whole))]
-fn put_whole_element(
-    alloc: Global,
-    elements: Shared<Items<Value>>,
-    span: Span,
-    at: usize,
-    new: Held<Value>,
-) -> Result<Shared<Items<Value>>, Failure>
-    ensures { Is all_values result (put_into_elements WIDTH_LIMIT false span (pos at) [] (value_of new) (all_values elements)) }
-{
-    if at >= elements.get().len() {
-        return Err(Failure::Fault(DynCode::D06, span));
-    }
-    let mut elements = elements;
-    set_element(alloc, &mut elements, at, new.into_inner())?;
-    Ok(elements)
-}
-
-/// Gives the element in a place another value: in place where the list has one owner, and else in a copy of it.
-fn set_element(
-    alloc: Global,
-    elements: &mut Shared<Items<Value>>,
-    at: usize,
-    value: Value,
-) -> Result<(), AllocError>
-    requires { at < length elements.old }
-    ensures { OnOk result (elements.new ≡ slice_set elements.old at value) }
-{
-    let value = Held::new(value);
-    if let Some(list) = elements.get_mut() {
-        list.set(at, value.into_inner());
-        return Ok(());
-    }
-    let mut copies = copy_all(alloc, elements.get().as_slice())?;
-    copies.set(at, value.into_inner());
-    *elements = Shared::new(alloc, copies)?;
-    Ok(())
-}
-
-/// Gives the field in a place another value, as `set_element` does.
-fn set_field(
-    alloc: Global,
-    fields: &mut Shared<Items<FieldValue>>,
-    place: usize,
-    value: Value,
-) -> Result<(), AllocError>
-    requires { place < length fields.old }
-    ensures length { OnOk result (length fields.new ≡ length fields.old) }
-    ensures value { OnOk result
-        (places.with_field_at place (value_of value) (all_fields fields.old) ≡ Some (all_fields fields.new)) }
-{
-    let value = Held::new(value);
-    if let Some(list) = fields.get_mut() {
-        return set_in(list, place, value.into_inner());
-    }
-    let mut copies = copy_fields(alloc, fields.get().as_slice())?;
-    set_in(&mut copies, place, value.into_inner())?;
-    *fields = Shared::new(alloc, copies)?;
-    Ok(())
-}
-
-/// Gives the field in a place of a list another value.
+/// Gives the field in a place another value.
 #[tactic(auto, using(crate::proofs::Putting::field_set))]
-fn set_in(fields: &mut Items<FieldValue>, place: usize, value: Value) -> Result<(), AllocError>
+fn set_field(fields: &mut Items<FieldValue>, place: usize, value: Value) -> Result<(), AllocError>
     requires { place < length fields.old }
     ensures length { OnOk result (length fields.new ≡ length fields.old) }
     ensures value { OnOk result
@@ -559,6 +472,16 @@ fn value_at(span: Span, at: usize, elements: &[Value]) -> Result<Value, Failure>
     }
 }
 
+/// The elements, with no other owner.
+fn into_owned(alloc: Global, elements: Shared<Items<Value>>) -> Result<Items<Value>, AllocError>
+    ensures { IfOk result (λ it. it ≡ elements) }
+{
+    match elements.take() {
+        Ok(owned) => Ok(owned),
+        Err(shared) => copy_all(alloc, shared.get().as_slice()),
+    }
+}
+
 /// The same values in a list of their own.
 fn copy_all(alloc: Global, values: &[Value]) -> Result<Items<Value>, AllocError>
     ensures { IfOk result (λ it. it ≡ values.now) }
@@ -568,6 +491,19 @@ fn copy_all(alloc: Global, values: &[Value]) -> Result<Items<Value>, AllocError>
         copies.push(copy(value)?)?;
     }
     Ok(copies)
+}
+
+/// The fields, with no other owner.
+fn into_owned_fields(
+    alloc: Global,
+    fields: Shared<Items<FieldValue>>,
+) -> Result<Items<FieldValue>, AllocError>
+    ensures { IfOk result (λ it. it ≡ fields) }
+{
+    match fields.take() {
+        Ok(owned) => Ok(owned),
+        Err(shared) => copy_fields(alloc, shared.get().as_slice()),
+    }
 }
 
 /// The same fields in a list of their own.

@@ -61,8 +61,8 @@ each_behind : (A : ℕ → Type 0) (es fs : List Entry) → EachOver A (es ++ fs
 each_behind A [] fs g = g
 each_behind A (e ∷ es) fs g = each_behind A es fs g.1.1
 
-pub agrees_moved : (base names : List Entry) (a b : Assignment) (c : Core) → EachOver (Below names) names → SameOn names a b → Agrees base names a c → Agrees base names b c
-agrees_moved base names a b c g s k = record {
+pub agrees_moved : (base : List Entry) (gv : Assignment) (names : List Entry) (a b : Assignment) (c : Core) → EachOver (Below names) names → SameOn names a b → Agrees base gv names a c → Agrees base gv names b c
+agrees_moved base gv names a b c g s k = record {
   locals = k.locals;
   names_are = k.names_are;
   fresh = k.fresh;

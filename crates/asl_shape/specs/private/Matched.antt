@@ -20,10 +20,6 @@ values_from xs i = map value_of (drop i xs)
 abbrev pub matched_at : List Value → Matched → rules.Matched
 matched_at xs m = record { holds = m.holds; left = values_from xs m.next }
 
--- whether a value matches a pattern that takes none of these
-abbrev pub held_with : List values.Value → Bool → rules.Matched
-held_with zs b = record { holds = b; left = zs }
-
 -- as `==`
 abbrev pub are_equal : ℕ → Span → values.Value → values.Value → Pure Bool
 are_equal limit span x y = binary_value limit span Equal x y >>= λ r. truth span r

@@ -6,9 +6,9 @@ use Rattle.asl_rules.specs.private.TypedMeaning.{last_of as last_rule}
 use Rattle.asl_tree.specs.Acts.{all_acts, last_of}
 use Rattle.asl_value.specs.View.{value_of}
 use Rattle.asl_branches.specs.Meets.{Ran, at}
-use Rattle.asl_branches.specs.View.{core_of, exit_of, room_of}
+use Rattle.asl_branches.specs.View.{exit_of, room_of}
 use Rattle.asl_branches.proofs.Answered.{ended}
-use Rattle.asl_branches.proofs.Choosing.{choice_asked, choice_failed, choice_of, choices_ended, passed_by}
+use Rattle.asl_branches.proofs.Choosing.{choice_asked, choice_failed, choice_of, choices_ended}
 use Rattle.asl_tree.proofs.Room.{fits_more, fits_more_last}
 use Rattle.asl_branches.proofs.Room.{alternative_fits, no_less_after, no_less_left}
 use Rattle.asl_branches.proofs.choices.exec_alternatives.Goals as goal
@@ -47,21 +47,6 @@ loop-other-preserved g c =
           (subst (λ b. Ran itself (Ok b) h (choice_of c.args.case.span (value_of c.args.x.now) w)
           (at g.K.Sink c.loop-other.run c.loop-other.sink)
           (at g.K.Sink c.is_chosen.new.run c.is_chosen.new.sink)) c.if-branch.false c.in_ok-is_chosen.ensures) c.loop-other.invariant.left;
-      fits = (alternative_fits (room_of c.args.run.now) c.args.case.others.now c.loop-other.other-index c.other-item.result w ss
-          (omega (arith, c.loop-other-test.true)) c.other-item.is c.alternative_parts.ensures c.loop-other.invariant.fits).1;
-    }
-
-pub loop-other-preserved-then-is_passed : goal.loop-other-preserved-then-is_passed
-loop-other-preserved-then-is_passed g c =
-    let h = g.N.Nodes.setting c.args.here.now in
-    let w = c.alternative_parts.result.0.now in
-    let ss = c.alternative_parts.result.1.now in
-    record {
-      left = choice_asked h c.args.case.span (value_of c.args.x.now) c.args.case.others.now c.loop-other.other-index c.other-item.result w
-          ss (last_rule (last_of c.args.case.last.now)) false _ _ _ _ (omega (arith, c.loop-other-test.true)) c.other-item.is
-          c.alternative_parts.ensures
-          (passed_by h (choice_of c.args.case.span (value_of c.args.x.now) w) (at g.K.Sink c.loop-other.run c.loop-other.sink)
-          (c.is_passed.ensures c.if-is_passed.true c.args.case.span (core_of c.loop-other.run))) c.loop-other.invariant.left;
       fits = (alternative_fits (room_of c.args.run.now) c.args.case.others.now c.loop-other.other-index c.other-item.result w ss
           (omega (arith, c.loop-other-test.true)) c.other-item.is c.alternative_parts.ensures c.loop-other.invariant.fits).1;
     }

@@ -1,6 +1,5 @@
 use Rattle.std.proofs.Common.{◌≡◌, ◌<◌, ◌∙◌, Ok, Some, ap, length, get_or, of_z, refl, rules, subst, sym, to_z}
 use Rattle.std.specs.Int.{w128}
-use Rattle.std.specs.Prelude.{option_map}
 use Rattle.asl_rules.specs.values.Operators.{plain_bits}
 use Rattle.asl_rules.specs.values.Values.{bool, int}
 use Rattle.asl_tree.specs.Acts.{act_of}
@@ -14,7 +13,7 @@ use Rattle.asl_branches.specs.View.{core_of, cutting_of, meaning_of, meter_of, r
 use Rattle.asl_branches.proofs.Listing.{act_next}
 use Rattle.asl_run.specs.private.AtOnce.{found}
 use Rattle.asl_run.proofs.ActsAtOnce.{untouched}
-use Rattle.asl_run.proofs.AtOnce.{answered, stands, truth_there}
+use Rattle.asl_run.proofs.AtOnce.{answered, truth_there}
 use Rattle.asl_run.proofs.Entries.{act_fits, acts_fit}
 use Rattle.asl_run.proofs.Turning.{int_there}
 use Rattle.asl_run.proofs.Viewed.{read_is}
@@ -51,18 +50,6 @@ eval-returns-in-Read g t c =
     ((cutting_of h.funcs.now h.depth).expr e (core_of a.run) (meter_of a.run a.told)) a a1)
     (sym (read_is c.args.e.now c.in-Read.note c.in-Read.slot c.in-Read.is))
     (c.enter_read.ensures (note_view c.in-Read.note) a.told a.faults a.full refl)
-
-pub eval-returns-then-in-Some : goal.eval-returns-then-in-Some
-eval-returns-then-in-Some g t c = record {
-  meets =
-      stands (option_map value_of c.part_there.result) (value_of c.in-Some.x) c.args.here.funcs.now c.args.here.depth c.args.e.now
-      c.args.run.now c.part_there.new.left (g.K.Sink.written c.args.sink.now) (ap (option_map value_of) c.in-Some.is)
-      c.part_there.ensures;
-  counts = search rules;
-  same_full = search rules;
-  keeps = search rules;
-  grows = search rules;
-}
 
 pub eval-returns-in-Integer : goal.eval-returns-in-Integer
 eval-returns-in-Integer g t c = record {

@@ -1,6 +1,8 @@
 use Rattle.std.proofs.Common.{◌≡◌, ◌<◌, ◌∙◌, false, length, sym, ap, subst, to_z-of_z, rules}
+use Rattle.std.specs.Prelude.{slice_set}
 use Rattle.asl_rules.specs.values.Structures.{value_at, inside}
 use Rattle.asl_rules.specs.runs.Pures.{there}
+use Rattle.asl_rules.specs.runs.Plans.{Good}
 use Rattle.asl_value.specs.declared.value.Value.TheVariants as v
 use Rattle.asl_value.specs.private.Forms.{all_steps}
 use Rattle.asl_bits.specs.declared.TheConstants.{WIDTH_LIMIT}
@@ -24,17 +26,19 @@ put_in_fields-returns t c =
     (all_fields c.args.fields) (all_fields c.set_field.new.fields) (all_fields c.set_field-2.new.fields)
     (ap (λ l. there c.args.span (field_at c.args.place (all_fields l))) (sym seen) ∙ c.in_ok-part.ensures.value)
     (ap (λ x. updated WIDTH_LIMIT c.args.holds_bits (all_steps c.args.rest.now) (value_of c.args.new) (value_of x)) (sym held) ∙ c.in_ok-changed.ensures)
-    c.in_ok-set_field.ensures.value
-    c.in_ok-set_field-2.ensures.value
+    (ap (λ l. with_field_at c.args.place (value_of (v.Bool false)) (all_fields l)) (sym c.in_ok-owned.ensures) ∙ c.in_ok-set_field.ensures.value)
+    c.in_ok-set_field-2.ensures.value ∙
+    ap (λ l. Good (all_fields l)) (sym c.in_ok-new.ensures)
 
 pub put_in_place-returns : goal.put_in_place-returns
 put_in_place-returns t c =
     let seen : c.as_slice.result.now ≡ c.args.elements = c.as_slice.ensures ∙ c.get.ensures in
     let held : c.into_inner.result ≡ c.in_ok-part.part = search rules in
     values_put WIDTH_LIMIT c.args.holds_bits c.args.span c.args.at (all_steps c.args.rest.now) (value_of c.args.new) (value_of c.in_ok-part.part) (v.Bool false) c.in_ok-changed.changed
-    c.args.elements c.set_element.new.elements c.set_element-2.new.elements
+    c.args.elements c.set.new.self c.set-2.new.self
     (ap (λ l. inside c.args.span (value_at c.args.at (all_values l))) (sym seen) ∙ c.in_ok-part.ensures.value)
     (ap (λ x. updated WIDTH_LIMIT c.args.holds_bits (all_steps c.args.rest.now) (value_of c.args.new) (value_of x)) (sym held) ∙ c.in_ok-changed.ensures)
     (subst (λ l. c.args.at < length l) seen c.in_ok-part.ensures.within)
-    c.in_ok-set_element.ensures
-    c.in_ok-set_element-2.ensures
+    (c.set.ensures ∙ ap (λ l. slice_set l c.args.at (v.Bool false)) c.in_ok-owned.ensures)
+    c.set-2.ensures ∙
+    ap (λ l. Good (all_values l)) (sym c.in_ok-new.ensures)

@@ -1,0 +1,2 @@
+-- How evaluation is related to runs.
+pub mod Answers
