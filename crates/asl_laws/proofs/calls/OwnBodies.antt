@@ -1,5 +1,5 @@
 -- What the rules say of the body of a subprogram, in the frame of a call.
-use Rattle.std.proofs.Common.{◌≡◌, ℕ, suc, ◌<◌, ◌≤◌, Bool, true, false, cond, ◌&&◌, List, [], ◌∷◌, ◌++◌, Option, Some, None, Ok, refl, sym, ap, ◌∙◌, subst, arith, map, append_assoc}
+use Rattle.std.proofs.Common.{◌≡◌, ℕ, suc, ◌<◌, ◌≤◌, Bool, true, false, cond, ◌&&◌, List, [], ◌∷◌, ◌++◌, Option, Some, None, Ok, refl, sym, ap, ◌∙◌, subst, arith, map, append_assoc, inl}
 use Rattle.std.specs.Str.{bytes_eq}
 use Rattle.asl_syn.specs.declared.code.StaticCode.TheVariants.{T17}
 use Rattle.asl_syn.specs.declared.tree.Decl.{Decl}
@@ -96,7 +96,7 @@ module _ (tests : Tests) (right : IsRight tests) (ds : List Decl) (base : List E
 
   result_same : (T : Option Ty) (ps : List Param) (names : List Entry) (a b : Assignment) → ((U : Ty) → T ≡ Some U → Over (IsAtomOf ps) U) → ((n : ℕ) → IsAtomOf ps n → n < next_atom names) → SameOn names a b → result_at b T ≡ result_at a T
   result_same None ps names a b o l s = refl
-  result_same (Some T) ps names a b o l s = ap Some (sym (type_moved (IsAtomOf ps) a b (λ n i. s n (l n i)) T (o T refl)))
+  result_same (Some T) ps names a b o l s = ap Some (sym (type_moved (IsAtomOf ps) a b (λ n i. s n (inl (l n i))) T (o T refl)))
 
   -- a body with its list of typed trees
   pub record BodyWith (h : Head) (t : TreeFunc) (a : Assignment) : Type 0 where

@@ -71,7 +71,7 @@ ends_never false h k = no k
 
 -- the caller's names are there again
 pub restored_agrees : (base : List Entry) (gv : Assignment) (names : List Entry) (a : Assignment) (c c1 : Core) → Agrees base gv names a c → GlobalsMatch base gv c1.globals → Agrees base gv names a (restored c c1)
-restored_agrees base gv names a c c1 k g = record { locals = k.locals; names_are = k.names_are; fresh = k.fresh; plain = k.plain; frame = k.frame; globals = g; handled = k.handled; callers = k.callers }
+restored_agrees base gv names a c c1 k g = record { locals = k.locals; names_are = k.names_are; fresh = k.fresh; plain = k.plain; frame = k.frame; globals = g; handled = k.handled; callers = k.callers; outside = k.outside }
 
 module _ (tests : Tests) (right : IsRight tests) (ds : List Decl) (base : List Entry) (gv : Assignment) (subs : List Signature) (loose : Bool) (funcs : List TreeFunc) (w : WellNamed base) where
   back_at : (outer : Bool) (H : Here) (c c1 : Core) → At tests base gv subs outer H c → GlobalsMatch base gv c1.globals → At tests base gv subs outer H (restored c c1)

@@ -115,10 +115,10 @@ module _ (tests : Tests) (right : IsRight tests) (ds : List Decl) (base : List E
   call_head : (H : Here) (span : Span) (name : List ℕ) (number : ℕ) (f : Func) (head : Head) (i : HeadIs tests base f head) (t : TreeFunc) (os : List Operand) (r : Replacing) (ys xs : List Value) (c : Core) → Opens tests base gv subs loose H number → slice_get subs number ≡ Some (head_at f head i).signature → routine_named name ≡ None →
       overload (env tests right ds base gv subs loose trees w) (outside c) 0 (funcs_of ds) name xs ≡ Some (record { id = number; func = f }) → signature_rule tests base f ≡ Ok (head_at f head i) → body_rule tests subs (head_at f head i) ≡ Ok t → slice_get trees number ≡ Some t →
       AllFormed tests right ds base gv subs loose trees w (types_of os) → AllIn (types_in base) H.present (types_of os) xs → At tests base gv subs loose H c → FormedResult (types_in base) i.result → kinds_eq (kinds i.formals) (kinds (types_of os)) ≡ true → Paired i.params.0 r.given →
-      both_fit tests span (head_at f head i).signature r.given os (replaced_by i.params.0 r.given) ≡ Ok tt → ParamsSo H.present span f i.params.0 r ys xs c → CallOk H span name number (head_at f head i).signature r ys xs c
+      both_fit tests span (head_at f head i).signature r.given os (replaced_by i.params.0 r.given) ≡ Ok tt → ParamsSo H.present gv span f i.params.0 r ys xs c → CallOk H span name number (head_at f head i).signature r ys xs c
   call_head H span name number f head i t os r ys xs c op is_signature none found_so judged body tree_is formed_os in_os at formed_so kinds_so paired fit po =
       let h = head_at f head i in
-      let av = integers_of (po.params ++ xs) in
+      let av = integers_of gv (po.params ++ xs) in
       let by = replaced_by i.params.0 r.given in
       let over = signature_over tests base f h (outside_over base out Never) judged in
       let fits = then_ok (params_fit tests span by i.params.0 r.given) (arguments_fit tests span by i.formals os) tt fit in
@@ -188,7 +188,7 @@ module _ (tests : Tests) (right : IsRight tests) (ds : List Decl) (base : List E
       let i = head_is tests base m.func m.head m.judged in
       let e : (head_at m.func m.head i).signature ≡ q.signature = ap (λ (z : Head). z.signature) i.is ∙ m.signature_is in
       let is_signature : slice_get subs q.number ≡ Some (head_at m.func m.head i).signature = chosen_at name (types_of os) subs q is ∙ ap Some (sym e) in
-      subst (λ (z : Signature). FormedResult (types_in base) z.result → kinds_eq (kinds z.formals) (kinds (types_of os)) ≡ true → Paired z.params r.given → both_fit tests span z r.given os (replaced_by z.params r.given) ≡ Ok tt → ParamsSo H.present span m.func z.params r ys xs c → CallOk H span name q.number z r ys xs c) e
+      subst (λ (z : Signature). FormedResult (types_in base) z.result → kinds_eq (kinds z.formals) (kinds (types_of os)) ≡ true → Paired z.params r.given → both_fit tests span z r.given os (replaced_by z.params r.given) ≡ Ok tt → ParamsSo H.present gv span m.func z.params r ys xs c → CallOk H span name q.number z r ys xs c) e
       (λ a1 a2 a3 a4 a5. call_head H span name q.number m.func m.head i m.tree os r ys xs c op is_signature none m.found_so (subst (λ z. signature_rule tests base m.func ≡ Ok z) (sym i.is) m.judged) (subst (λ z. body_rule tests subs z ≡ Ok m.tree) (sym i.is) m.body) m.tree_is formed_os in_os at a1 a2 a3 a4 a5)
       (chosen_formed tests right ds base gv subs loose trees w 0 name (types_of os) subs q s is)
       (chosen_kinds name (types_of os) q (all_shaped (types_of os) formed_os) is)

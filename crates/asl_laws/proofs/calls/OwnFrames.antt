@@ -25,7 +25,7 @@ use Rattle.asl_rules.specs.declarations.Signatures.{formals_free, formals_rule, 
 use Rattle.asl_rules.specs.types.Numbers.{Numbers}
 use Rattle.asl_rules.specs.runs.States.{of_type, Core}
 use Rattle.asl_rules.specs.private.Belonging.{has_type}
-use Rattle.asl_rules.specs.private.Agreement.{types_in, CountsAs, Agrees}
+use Rattle.asl_rules.specs.private.Agreement.{types_in, CountsAs, Agrees, SameOutside}
 use Rattle.asl_rules.specs.runs.Plans.{Pure as PureOf, Good}
 use Rattle.asl_rules.specs.runs.Pures as pures
 use Rattle.asl_rules.specs.runs.Pures.{there}
@@ -63,12 +63,18 @@ whole (exception_with own s n xs) = pos 0
 whole (tuple_with xs) = pos 0
 whole (array_with k xs) = pos 0
 
--- the values of a frame in order: their atoms are the even numbers
-abbrev pub integers_of : List Value → Assignment
-integers_of [] n = pos 0
-integers_of (x ∷ xs) zero = whole x
-integers_of (x ∷ xs) (suc zero) = pos 0
-integers_of (x ∷ xs) (suc (suc n)) = integers_of xs n
+-- the values of a frame in order: their atoms are the even numbers, and the others stand for what they stand for elsewhere
+abbrev pub integers_of : Assignment → List Value → Assignment
+integers_of a [] n = a n
+integers_of a (x ∷ xs) zero = whole x
+integers_of a (x ∷ xs) (suc zero) = a 1
+integers_of a (x ∷ xs) (suc (suc n)) = integers_of (λ m. a (suc (suc m))) xs n
+
+pub outside_kept : (a : Assignment) (xs : List Value) → SameOutside (integers_of a xs) a
+outside_kept a [] n o = refl
+outside_kept a (x ∷ xs) zero o = absurd o
+outside_kept a (x ∷ xs) (suc zero) o = refl
+outside_kept a (x ∷ xs) (suc (suc n)) o = outside_kept (λ m. a (suc (suc m))) xs n o
 
 -- integers among these values have theirs at the atoms from m
 abbrev pub Follows : Assignment → ℕ → List Value → Type 0
@@ -81,9 +87,10 @@ two_on n m = omega arith
 zero_on : (m : ℕ) → 0 + m ≡ m
 zero_on m = omega arith
 
-pub follows : (a : Assignment) (m : ℕ) (xs : List Value) → ((n : ℕ) → a (n + m) ≡ integers_of xs n) → Follows a m xs
-follows a m [] h = tt
-follows a m (x ∷ xs) h = (λ z e. sym (ap a (zero_on m)) ∙ h 0 ∙ ap whole e, follows a (m + 2) xs (λ n. ap a (two_on n m) ∙ h (suc (suc n))))
+pub follows : (a b : Assignment) (m : ℕ) (xs : List Value) → ((n : ℕ) → a (n + m) ≡ integers_of b xs n) → Follows a m xs
+follows a b m [] h = tt
+follows a b m (x ∷ xs) h =
+    (λ z e. sym (ap a (zero_on m)) ∙ h 0 ∙ ap whole e, follows a (λ n. b (suc (suc n))) (m + 2) xs (λ n. ap a (two_on n m) ∙ h (suc (suc n))))
 
 pub viewed_int : (C : Closed) (z : ℤ) → viewed C (int z) ≡ int z
 viewed_int (cl.named name supers T) z = viewed_int T z

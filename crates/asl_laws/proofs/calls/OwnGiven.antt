@@ -160,10 +160,10 @@ module _ (tests : Tests) (right : IsRight tests) (ds : List Decl) (base : List E
   -- the atoms of the parameters stand in the frame for what replaces them at the caller
   pub given_at : (a : Assignment) (ps : List WrittenParam) (r : List Param × List Entry) (gs : List Given) (xs ys : List Value) →
       next_atom base ≡ 0 → params_rule tests ps [] base ≡ Ok r → Paired r.0 gs → AllWide a (polys gs) xs → (n : ℕ) → IsAtomOf r.0 n →
-      behind (replaced_by r.0 gs) a n ≡ integers_of (xs ++ ys) n
+      behind (replaced_by r.0 gs) a n ≡ integers_of gv (xs ++ ys) n
   given_at a ps r gs xs ys zero h c k =
-      let av = integers_of (xs ++ ys) in
-      same_at a av 0 r.0 gs xs ys (params_atoms tests ps base r zero h) c k (follows av 0 (xs ++ ys) (λ n. ap av (nothing_more n)))
+      let av = integers_of gv (xs ++ ys) in
+      same_at a av 0 r.0 gs xs ys (params_atoms tests ps base r zero h) c k (follows av gv 0 (xs ++ ys) (λ n. ap av (nothing_more n)))
 
   -- what is given to parameters is of the types that are written there
   pub params_have : (a av : Assignment) (span : Span) (ps : List WrittenParam) (r : List Param × List Entry) (gs : List Given)

@@ -24,7 +24,7 @@ use Rattle.asl_rules.specs.declarations.Signatures.{formals_free, formals_rule, 
 use Rattle.asl_rules.specs.types.Numbers.{present}
 use Rattle.asl_rules.specs.runs.States.{of_type, of_value, Core, entered}
 use Rattle.asl_rules.specs.private.Belonging.{InType, has_type}
-use Rattle.asl_rules.specs.private.Agreement.{types_in, Agrees, GlobalsMatch, AllMatch, global_matches}
+use Rattle.asl_rules.specs.private.Agreement.{types_in, Agrees, SameOutside, GlobalsMatch, AllMatch, global_matches}
 use Rattle.asl_rules.specs.runs.Plans.{Pure as PureOf, Good}
 use Rattle.asl_rules.specs.runs.Pures as pures
 use Rattle.asl_rules.specs.runs.Evaluation.{declare, declared, type_under, param_value, param_under, params_bound, formals_bound, Entering, entering, under_written, result_at as keeps_at}
@@ -48,7 +48,7 @@ use Rattle.asl_laws.proofs.expressions.ExprForms.{env}
 use Rattle.asl_laws.proofs.widths.PresentNumbers.{CountedFixed, present_agree}
 use Rattle.asl_laws.proofs.values.PresentTypes.{type_present}
 use Rattle.asl_laws.proofs.calls.OwnCalls.{seen_by}
-use Rattle.asl_laws.proofs.calls.OwnFrames.{integers_of, Follows, follows, viewed_int, Taken, taken_more, Next, declare_next, HasAll, formals_good}
+use Rattle.asl_laws.proofs.calls.OwnFrames.{integers_of, outside_kept, Follows, follows, viewed_int, Taken, taken_more, Next, declare_next, HasAll, formals_good}
 use Rattle.asl_laws.proofs.expressions.Claims.{around_of}
 
 -- ---- names that count in widths can't be assigned
@@ -196,8 +196,8 @@ module _ (tests : Tests) (right : IsRight tests) (ds : List Decl) (base : List E
   -- ---- a whole frame
 
   -- the frame of a caller waits
-  pub entered_agrees : (id : ℕ) (names : List Entry) (present later : Assignment) (c : Core) → Agrees base gv names present c → Agrees base gv base later (entered id c)
-  entered_agrees id names present later c a = record {
+  pub entered_agrees : (id : ℕ) (names : List Entry) (present later : Assignment) (c : Core) → SameOutside later gv → Agrees base gv names present c → Agrees base gv base later (entered id c)
+  entered_agrees id names present later c o a = record {
     locals = [];
     names_are = sym (append_nil base);
     fresh = tt;
@@ -205,7 +205,8 @@ module _ (tests : Tests) (right : IsRight tests) (ds : List Decl) (base : List E
     frame = tt;
     globals = a.globals;
     handled = tt;
-    callers = (record { locals = a.locals; present = present; fresh = a.fresh; plain = a.plain; frame = a.frame; handled = a.handled }, a.callers);
+    callers = (record { locals = a.locals; present = present; fresh = a.fresh; plain = a.plain; frame = a.frame; handled = a.handled; outside = a.outside }, a.callers);
+    outside = o;
   }
 
   -- what a frame of these parameters and formals is
@@ -226,13 +227,13 @@ module _ (tests : Tests) (right : IsRight tests) (ds : List Decl) (base : List E
       ap (λ o. Some (under_written at o)) (type_present tests right ds base gv subs loose funcs w (in_names names) av c ty false W.value k a W.first) ∙ ap (seen_by at av) (ok_ok (Some W.value.ty) T W.then)
 
   pub frames_good : (span at : Span) (id : ℕ) (f : Func) (after : List (List ℕ)) (r : List Param × List Entry) (Ts : Parts) (T : Option Ty) (names : List Entry) (present : Assignment) (qs ys : List Value) (c : Core) → next_atom base ≡ 0 → params_free f.params [] base ≡ Ok after → formals_free f.formals after base ≡ Ok tt →
-      params_rule tests f.params [] base ≡ Ok r → formals_rule tests f.formals r.1 ≡ Ok Ts → result_rule tests f.result r.1 ≡ Ok T → HasParams (integers_of (qs ++ ys)) f.params base qs → HasAll tests right ds base gv subs loose funcs w (integers_of (qs ++ ys)) Ts ys → Agrees base gv names present c →
-      Frames span at id f Ts T (with_formals f.formals Ts r.1) (integers_of (qs ++ ys)) qs ys c
+      params_rule tests f.params [] base ≡ Ok r → formals_rule tests f.formals r.1 ≡ Ok Ts → result_rule tests f.result r.1 ≡ Ok T → HasParams (integers_of gv (qs ++ ys)) f.params base qs → HasAll tests right ds base gv subs loose funcs w (integers_of gv (qs ++ ys)) Ts ys → Agrees base gv names present c →
+      Frames span at id f Ts T (with_formals f.formals Ts r.1) (integers_of gv (qs ++ ys)) qs ys c
   frames_good span at id f after r Ts T names now qs ys c zero_so pf ff pr fr rr i j a =
       let E = env tests right ds base gv subs loose funcs w in
-      let av = integers_of (qs ++ ys) in
+      let av = integers_of gv (qs ++ ys) in
       let m = params_good span av ys f.params [] base [] after r qs (entered id c) pr pf (λ name g h. g) (counted_outside base gv c.globals a.globals)
-      (subst (λ l. Follows av l (qs ++ ys)) (sym zero_so) (follows av 0 (qs ++ ys) (λ n. ap av (nothing_more n)))) i (entered_agrees id names now av c a) in
+      (subst (λ l. Follows av l (qs ++ ys)) (sym zero_so) (follows av gv 0 (qs ++ ys) (λ n. ap av (nothing_more n)))) i (entered_agrees id names now av c (outside_kept gv (qs ++ ys)) a) in
       let n = formals_good tests right ds base gv subs loose funcs w span r.1 (present m.state) av m.state (present_agree av base gv (in_names r.1) m.state m.counted m.agrees) m.agrees f.formals Ts ys r.1 after m.state fr ff m.taken m.follows_on j m.agrees in
       record {
         states = record { params = m.state; inner = n.state };

@@ -65,7 +65,7 @@ module _ (tests : Tests) (base : List Entry) (gv : Assignment) (subs : List Sign
     is_caller = k.is_caller;
     globals = c.globals;
     agrees = subst (λ (z : Here). Agrees base gv z.scope.names z.present (waiting c.globals (record { names = c.frame; handled = c.handled }) c.callers c.live)) (sym k.at)
-        (record { locals = a.agrees.locals; names_are = a.agrees.names_are; fresh = a.agrees.fresh; plain = a.agrees.plain; frame = a.agrees.frame; globals = a.agrees.globals; handled = a.agrees.handled; callers = a.agrees.callers });
+        (record { locals = a.agrees.locals; names_are = a.agrees.names_are; fresh = a.agrees.fresh; plain = a.agrees.plain; frame = a.agrees.frame; globals = a.agrees.globals; handled = a.agrees.handled; callers = a.agrees.callers; outside = a.agrees.outside });
     subs_are = ap (λ (z : Here). z.scope.subs) k.at ∙ a.subs_are;
     counted = subst (λ (z : Here). Bound tests base gv subs loose (Ruled z.scope.names z.scope.subs)) (sym k.at) a.counted;
     around_is = a.around_is ∙ sym (ap (λ (z : Here). z.around) k.at);

@@ -14,7 +14,7 @@ no_more (e ∷ es) = ap (λ l. e ∷ l) (no_more es)
 
 -- between two calls a state agrees with the names outside bodies
 pub resting_agrees : (base : List Entry) (gv : Assignment) (globals : List Binding) → GlobalsMatch base gv globals → Agrees base gv base gv (resting globals)
-resting_agrees base gv globals m = record { locals = []; names_are = no_more base; fresh = tt; plain = tt; frame = tt; globals = m; handled = tt; callers = tt }
+resting_agrees base gv globals m = record { locals = []; names_are = no_more base; fresh = tt; plain = tt; frame = tt; globals = m; handled = tt; callers = tt; outside = λ n o. refl }
 
 -- the runs of expressions over these names outside bodies, in the state before any call
 abbrev pub over_names : Tests → List Decl → List Entry → Environment

@@ -52,6 +52,7 @@ declared_agrees base gv names a c e x u m g f p k =
       globals = g.globals;
       handled = g.handled;
       callers = g.callers;
+      outside = g.outside;
     }
 
 values_snoc : (bs : List Binding) (b : Binding) → values_of (bs ++ b ∷ []) ≡ values_of bs ++ b.value ∷ []

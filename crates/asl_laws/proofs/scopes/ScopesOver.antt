@@ -1,6 +1,6 @@
 -- The scopes of a program: the types of names outside bodies have no atoms, and the types of the names of a body have atoms of names of that body alone. So a
 -- type is the same type for two assignments that agree on the atoms of its scope.
-use Rattle.std.proofs.Common.{◌≡◌, ℕ, suc, true, false, pos, List, [], ◌∷◌, Some, None, refl, sym, ap, ap₂, ◌∙◌, subst}
+use Rattle.std.proofs.Common.{◌≡◌, ℕ, suc, true, false, pos, List, [], ◌∷◌, Some, None, refl, sym, ap, ap₂, ◌∙◌, subst, inl}
 use Rattle.std.specs.Prelude.{if◌then◌else◌, ◌+ℤ◌, ◌*ℤ◌, not}
 use Rattle.asl_poly.specs.Terms.{Summand, Polynomial, value, product}
 use Rattle.asl_poly.specs.Fractions.{fraction_at}
@@ -99,7 +99,7 @@ fixed_never T h a = never_moved a (λ n. pos 0) T h
 
 -- a type of a scope is the same type where the atoms of the scope are the same
 pub type_same_on : (names : List Entry) (a b : Assignment) (T : Ty) → SameOn names a b → Over (Below names) T → type_with T a ≡ type_with T b
-type_same_on names a b T s h = type_moved (Below names) a b s T h
+type_same_on names a b T s h = type_moved (Below names) a b (λ n l. s n (inl l)) T h
 
 -- ---- names outside bodies
 

@@ -24,7 +24,7 @@ use Rattle.asl_rules.specs.statements.Stmts.{found_stmt}
 use Rattle.asl_rules.specs.declarations.Declarations.{in_names}
 use Rattle.asl_rules.specs.declarations.Programs.{Entries, accepted}
 use Rattle.asl_rules.specs.private.Belonging.{Belong}
-use Rattle.asl_rules.specs.private.Agreement.{types_in, GlobalsMatch, Agrees}
+use Rattle.asl_rules.specs.private.Agreement.{types_in, GlobalsMatch, Agrees, SameOutside}
 use Rattle.asl_rules.specs.runs.States.{Binding, Core, entered, restored, resting}
 use Rattle.asl_rules.specs.runs.Plans.{Good, lift}
 use Rattle.asl_rules.specs.runs.Pures as pures
@@ -58,7 +58,7 @@ use Rattle.asl_laws.proofs.scopes.Moved.{counted_fixed}
 use Rattle.asl_laws.proofs.widths.PresentNumbers.{present_agree}
 use Rattle.asl_laws.proofs.values.PresentTypes.{type_present}
 use Rattle.asl_laws.proofs.calls.OwnCalls.{seen_by, BodyOk, body_same}
-use Rattle.asl_laws.proofs.calls.OwnFrames.{integers_of, Follows, follows, HasAll, formals_good}
+use Rattle.asl_laws.proofs.calls.OwnFrames.{integers_of, outside_kept, Follows, follows, HasAll, formals_good}
 use Rattle.asl_laws.proofs.soundness.SoundnessFacts.{numbered}
 use Rattle.asl_laws.proofs.soundness.SoundnessEnds.{CallSame}
 use Rattle.asl_laws.proofs.soundness.SoundnessHeads.{head_formed}
@@ -166,10 +166,10 @@ module _ (tests : Tests) (right : IsRight tests) (ds : List Decl) (base : List E
   Keeps x y c = (x ≡ y) × GlobalsMatch base gv c.globals
 
   resting_so : (globals : List Binding) → GlobalsMatch base gv globals → Agrees base gv base gv (resting globals)
-  resting_so globals m = record { locals = []; names_are = sym (append_nil base); fresh = tt; plain = tt; frame = tt; globals = m; handled = tt; callers = tt }
+  resting_so globals m = record { locals = []; names_are = sym (append_nil base); fresh = tt; plain = tt; frame = tt; globals = m; handled = tt; callers = tt; outside = λ n o. refl }
 
-  entered_so : (a : Assignment) (id : ℕ) (globals : List Binding) → GlobalsMatch base gv globals → Agrees base gv base a (entered id (resting globals))
-  entered_so a id globals m = record {
+  entered_so : (a : Assignment) (id : ℕ) (globals : List Binding) → SameOutside a gv → GlobalsMatch base gv globals → Agrees base gv base a (entered id (resting globals))
+  entered_so a id globals o m = record {
     locals = [];
     names_are = sym (append_nil base);
     fresh = tt;
@@ -177,7 +177,8 @@ module _ (tests : Tests) (right : IsRight tests) (ds : List Decl) (base : List E
     frame = tt;
     globals = m;
     handled = tt;
-    callers = (record { locals = []; present = gv; fresh = tt; plain = tt; frame = tt; handled = tt }, tt);
+    callers = (record { locals = []; present = gv; fresh = tt; plain = tt; frame = tt; handled = tt; outside = λ n i. refl }, tt);
+    outside = o;
   }
 
   -- the result of a body as it is written
@@ -197,15 +198,15 @@ module _ (tests : Tests) (right : IsRight tests) (ds : List Decl) (base : List E
       let span = f.name.span in
       let c0 = resting globals in
       let c1 = entered id c0 in
-      let a : Assignment = integers_of args in
+      let a : Assignment = integers_of gv args in
       let n = alone tests base f h k p in
       let over = signature_over tests base f h (outside_over base out Never) k in
       let formals_over : AllOver Never h.signature.formals = all_more (IsAtomOf h.signature.params) Never (none_never h.signature.params p) h.signature.formals over.formals in
       let result_over : (T : Ty) → h.signature.result ≡ Some T → Over Never T = λ T q. over_more (IsAtomOf h.signature.params) Never (none_never h.signature.params p) T (over.result T q) in
-      let begun = entered_so a id globals m in
+      let begun = entered_so a id globals (outside_kept gv args) m in
       let agree = present_agree a base gv (in_names base) c1 (counted_fixed Never base (outside_over base out Never).each) begun in
       let bound = formals_good tests right ds base gv subs loose trees w span base (present c1) a c1 agree begun f.formals h.signature.formals args base [] c1 n.formals n.free (λ name q r. q)
-      (subst (λ z. Follows a z args) (sym (outside_atoms base out)) (follows a 0 args (λ i. ap a (zero_more i)))) (has_all tests right ds base gv subs loose trees w gv a args h.signature.formals formals_over b) begun in
+      (subst (λ z. Follows a z args) (sym (outside_atoms base out)) (follows a gv 0 args (λ i. ap a (zero_more i)))) (has_all tests right ds base gv subs loose trees w gv a args h.signature.formals formals_over b) begun in
       let ok : BodyOk tests right ds base gv subs loose trees w h l a = record {
         judged = j;
         ends = e;

@@ -199,7 +199,7 @@ module _ (av : Assignment) where
         put_is = ap (λ ns. put span (slot_among (place_of name ns) name (global_names names)) x (erased c)) n.frame
             ∙ ap (λ o. put span (slot_among o name (global_names names)) x (erased c)) r.place_is
             ∙ ap (λ o. known span (option_map (λ xs. record (erased c) { frame = xs }) o)) r.put_is;
-        agrees = record { locals = a.locals; names_are = a.names_are; fresh = a.fresh; plain = a.plain; frame = r.holds; globals = a.globals; handled = a.handled; callers = a.callers };
+        agrees = record { locals = a.locals; names_are = a.names_are; fresh = a.fresh; plain = a.plain; frame = r.holds; globals = a.globals; handled = a.handled; callers = a.callers; outside = a.outside };
         around_is = refl;
       }
   by_base base gv names c span name x s a n (Some st) q h m i =
@@ -214,7 +214,7 @@ module _ (av : Assignment) where
             ∙ ap (λ ns. put span (slot_among None name ns) x (erased c)) n.globals
             ∙ ap (λ i. put span (Global i) x (erased c)) r.number_is
             ∙ ap (λ o. known span (option_map (λ xs. record (erased c) { globals = xs }) o)) r.put_is;
-        agrees = record { locals = a.locals; names_are = a.names_are; fresh = a.fresh; plain = a.plain; frame = a.frame; globals = r.holds; handled = a.handled; callers = a.callers };
+        agrees = record { locals = a.locals; names_are = a.names_are; fresh = a.fresh; plain = a.plain; frame = a.frame; globals = r.holds; handled = a.handled; callers = a.callers; outside = a.outside };
         around_is = refl;
       }
 

@@ -101,6 +101,7 @@ agrees_more base gv names a c e b k f p m = record {
   globals = k.globals;
   handled = k.handled;
   callers = k.callers;
+  outside = k.outside;
 }
 
 values_snoc : (bs : List Binding) (b : Binding) → values_of (bs ++ b ∷ []) ≡ values_of bs ++ b.value ∷ []
@@ -109,7 +110,7 @@ values_snoc (x ∷ bs) b = ap (λ l. x.value ∷ l) (values_snoc bs b)
 
 -- the exceptions that are being handled don't matter to the names
 pub handled_agrees : (base : List Entry) (gv : Assignment) (names : List Entry) (a : Assignment) (hs : List Value) (c : Core) → AllRaised (types_in base) gv hs → Agrees base gv names a c → Agrees base gv names a (record c { handled = hs })
-handled_agrees base gv names a hs c r k = record { locals = k.locals; names_are = k.names_are; fresh = k.fresh; plain = k.plain; frame = k.frame; globals = k.globals; handled = r; callers = k.callers }
+handled_agrees base gv names a hs c r k = record { locals = k.locals; names_are = k.names_are; fresh = k.fresh; plain = k.plain; frame = k.frame; globals = k.globals; handled = r; callers = k.callers; outside = k.outside }
 
 module _ (tests : Tests) (right : IsRight tests) (ds : List Decl) (base : List Entry) (gv : Assignment) (subs : List Signature) (loose : Bool) (funcs : List TreeFunc) (w : WellNamed base) where
   -- an exception that comes out here

@@ -73,6 +73,7 @@ cut_agrees base gv names more a b c c1 h k =
       globals = k.globals;
       handled = k.handled;
       callers = k.callers;
+      outside = k.outside;
     }
 
 values_take : (n : ℕ) (bs : List Binding) → values_of (take n bs) ≡ take n (values_of bs)

@@ -1,7 +1,7 @@
 -- States that agree with scopes at an assignment of integers to the atoms, which is fixed for a frame: each name that stands for storage has a value there
 -- that belongs to its type, and where it counts in widths, its integer; each caller's frame holds the names of some scope at an assignment of its own; and
 -- what is being handled are exceptions. The names outside bodies have an assignment of their own, which is fixed for a run.
-use Rattle.std.specs.Prelude.{◌≡◌, ℕ, ◌<◌, pos, true, false, List, [], ◌∷◌, ◌++◌, Option, Some, None}
+use Rattle.std.specs.Prelude.{◌≡◌, ◌⊎◌, ℕ, zero, suc, ◌<◌, pos, true, false, List, [], ◌∷◌, ◌++◌, Option, Some, None}
 use Rattle.asl_poly.specs.Poly.{IsPolynomial, HasWidth}
 use Rattle.asl_rules.specs.types.Types.{Ty, kind, exceptions}
 use Rattle.asl_rules.specs.types.Closed.{Assignment, type_with, width_at}
@@ -111,6 +111,16 @@ AllRaised declared outer (x ∷ xs) = Raised declared outer x × AllRaised decla
 
 -- ---- states
 
+-- the atoms of names outside bodies are the odd numbers
+abbrev pub IsOuter : ℕ → Type 0
+IsOuter zero = ⊥
+IsOuter (suc zero) = Unit {0}
+IsOuter (suc (suc n)) = IsOuter n
+
+-- two assignments give the atoms of names outside bodies the same integers
+abbrev pub SameOutside : Assignment → Assignment → Type 0
+SameOutside a b = (n : ℕ) → IsOuter n → a n ≡ b n
+
 -- a caller's frame holds local storage, at an assignment of its own
 pub record Waits (base : List Entry) (outer : Assignment) (f : Frame) : Type 0 where
   pub locals : List Entry
@@ -119,6 +129,7 @@ pub record Waits (base : List Entry) (outer : Assignment) (f : Frame) : Type 0 w
   pub plain : AllPlain locals
   pub frame : FrameMatches (types_in base) present locals f.names
   pub handled : AllRaised (types_in base) outer f.handled
+  pub outside : SameOutside present outer
 
 abbrev pub AllWait : List Entry → Assignment → List Frame → Type 0
 AllWait base outer [] = Unit {0}
@@ -134,7 +145,8 @@ pub record Agrees (base : List Entry) (outer : Assignment) (names : List Entry) 
   pub globals : GlobalsMatch base outer c.globals
   pub handled : AllRaised (types_in base) outer c.handled
   pub callers : AllWait base outer c.callers
+  pub outside : SameOutside a outer
 
--- two assignments give the atoms of these names the same integers
+-- two assignments give the atoms of these names, and those of names outside bodies, the same integers
 abbrev pub SameOn : List Entry → Assignment → Assignment → Type 0
-SameOn names a b = (n : ℕ) → n < next_atom names → a n ≡ b n
+SameOn names a b = (n : ℕ) → (n < next_atom names) ⊎ IsOuter n → a n ≡ b n
