@@ -6,8 +6,7 @@ use Rattle.asl_rules.specs.runs.Told.{open_after}
 use Rattle.asl_rules.specs.runs.States.{Binding, Core}
 use Rattle.asl_rules.specs.values.Values.{Value}
 use Rattle.asl_rules.specs.runs.Plans.{starting, Outcome, Done, Thrown, Halt, Faulted, Stuck, final}
-use Rattle.asl_rules.specs.declarations.Environments.{Environment}
-use Rattle.asl_rules.specs.declarations.Programs.{environment}
+use Rattle.asl_rules.specs.declarations.Programs.{Environment, environment}
 use Rattle.asl_rules.specs.Tests.{Tests}
 use Rattle.asl_rules.specs.runs.Machines.{GivenUp, run_of, text_of_run}
 use Rattle.asl_rules.specs.runs.Evaluation.{initial_globals}

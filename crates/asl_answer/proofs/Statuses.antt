@@ -6,8 +6,7 @@ use Rattle.asl_syn.specs.declared.read.ReadDecl.{ReadDecl}
 use Rattle.asl_rules.specs.values.Values.{Value}
 use Rattle.asl_rules.specs.runs.States.{Binding, Core}
 use Rattle.asl_rules.specs.runs.Plans.{Outcome, Done, Thrown, Halt, End, Faulted, Stuck}
-use Rattle.asl_rules.specs.declarations.Environments.{Environment}
-use Rattle.asl_rules.specs.declarations.Programs.{Accepted, Entries}
+use Rattle.asl_rules.specs.declarations.Programs.{Environment, Accepted, Entries}
 use Rattle.asl_rules.specs.Tests.{Tests}
 use Rattle.asl_rules.specs.report.Texts.{Text, File, made_words}
 use Rattle.asl_rules.specs.runs.Words.{WordsEnd, AllReturned, WordThrew, WordHalted}

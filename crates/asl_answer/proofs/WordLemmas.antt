@@ -6,8 +6,7 @@ use Rattle.asl_io.specs.Told.{TakesPrefix}
 use Rattle.asl_rules.specs.runs.Told.{appended, open_after}
 use Rattle.asl_rules.specs.runs.States.{Binding}
 use Rattle.asl_rules.specs.runs.Plans.{Meter, starting, Faulted, Stuck}
-use Rattle.asl_rules.specs.declarations.Environments.{Environment}
-use Rattle.asl_rules.specs.declarations.Programs.{environment}
+use Rattle.asl_rules.specs.declarations.Programs.{Environment, environment}
 use Rattle.asl_rules.specs.Tests.{Tests}
 use Rattle.asl_rules.specs.runs.Evaluation.{initial_globals}
 use Rattle.asl_rules.specs.report.Texts.{Text, File, line_feed, done_line, dynamic_line, uncaught_line}

@@ -181,8 +181,13 @@ try_all w r span ss cs last B D F G b b1 xs l p same q inner end again e h =
 
 -- ---- lists that see a name
 
-pub caught_begun : (i : Option Ident) (T : Ty) (ss : List FoundStmt) (B C D : Body) → with_caught i T B ≡ Ok C → D ≡ handling C →
-    caught_shut i T ss B ≡ (shut ss D >>= λ l. Ok (listed B.scope.names l.effect l.acts))
-caught_begun i T ss B C D p inner =
+pub caught_all : (i : Option Ident) (T : Ty) (ss : List FoundStmt) (B C D : Body) (l : Listed) → with_caught i T B ≡ Ok C → D ≡ handling C → shut ss D ≡ Ok l → caught_shut i T ss B ≡ Ok (listed B.scope.names l.effect l.acts)
+caught_all i T ss B C D l p inner q =
     ap (λ r. r >>= λ C. shut ss (handling C) >>= λ l. Ok (listed B.scope.names l.effect l.acts)) p
-    ∙ ap (λ (y : Body). shut ss y >>= λ l. Ok (listed B.scope.names l.effect l.acts)) (sym inner)
+    ∙ ap (λ r. r >>= λ l. Ok (listed B.scope.names l.effect l.acts)) (ap (λ (y : Body). shut ss y) (sym inner) ∙ q)
+
+pub caught_stop : {A C : Type 0} (v : A → Listed) (w : C → Listed) (e : Refused) (old : Result A Refused) (new : Result C Refused) (i : Option Ident) (T : Ty) (ss : List FoundStmt) (B E D : Body) → old ≡ Err e → new ≡ Err e → with_caught i T B ≡ Ok E → D ≡ handling E → Met v old (shut ss D) → Met w new (caught_shut i T ss B)
+caught_stop v w e old new i T ss B E D xe qe p inner h =
+    stop v w e old new (shut ss (handling E)) _ (λ l. Ok (listed B.scope.names l.effect l.acts)) xe qe
+    (ap (λ r. r >>= λ C. shut ss (handling C) >>= λ l. Ok (listed B.scope.names l.effect l.acts)) p)
+    (subst (λ (y : Body). Met v old (shut ss y)) inner h)

@@ -1,18 +1,29 @@
 -- The loops of the checker, one turn more.
-use Rattle.std.proofs.Common.{◌≡◌, ℕ, ◌+◌, ◌<◌, length, get_or, drop, Bool, ◌&&◌, List, [], ◌∷◌, ◌++◌, map, reverse, Option, Result, Ok, Err, refl, sym, ap, ◌∙◌}
+use Rattle.std.proofs.Common.{◌≡◌, ℕ, ◌+◌, ◌<◌, length, get_or, drop, Bool, ◌&&◌, List, [], ◌∷◌, ◌++◌, map, reverse, Option, Some, None, Result, Ok, Err, take, refl, sym, ap, ◌∙◌}
 use Rattle.std.proofs.lemmas.List.{reverse-append}
 use Rattle.asl_syn.specs.declared.code.Fault.{Fault}
 use Rattle.asl_syn.specs.declared.tree.Binder.{Binder}
 use Rattle.asl_syn.specs.declared.tree.LocalKind.{LocalKind}
-use Rattle.asl_rules.specs.Faults.{◌>>=◌}
+use Rattle.asl_rules.specs.Faults.{◌>>=◌, need}
 use Rattle.asl_rules.specs.types.Types.{Ty, Parts}
-use Rattle.asl_rules.specs.declarations.Scopes.{Entry}
+use Rattle.asl_rules.specs.declarations.Scopes.{Body, Entry, body_names, is_free, fixed, atom_at, next_atom}
+use Rattle.asl_rules.specs.statements.Branches.{with_caught, with_index, index_type, index_rule}
+use Rattle.asl_rules.proofs.basics.Inversions.{ok_ok, then_ok}
+use Rattle.asl_rules.proofs.verdict.SomeTests.{SomeTests, some_tests, limit_within}
+use Rattle.asl_types.specs.Suits.{Suits}
+use Rattle.asl_bits.specs.declared.TheConstants.{WIDTH_LIMIT}
+use Rattle.asl_syn.specs.declared.tree.Direction.{Direction}
+use Rattle.asl_syn.specs.declared.tree.Expr.{Expr}
+use Rattle.asl_syn.specs.declared.tree.Ident.{Ident}
+use Rattle.asl_syn.specs.declared.code.StaticCode.TheVariants.{T01}
+use Rattle.std.proofs.Math.Seq.{take-append_seam}
+use Rattle.asl_rules.specs.Tests.{Tests}
 use Rattle.asl_syn.specs.declared.code.Refused.{Refused}
 use Rattle.asl_syn.specs.declared.code.Refused.TheVariants.{At, NoMemory}
 use Rattle.asl_types.specs.private.Answers.{Met}
 use Rattle.asl_rules.specs.statements.Locals.{part_declared}
-use Rattle.asl_blocks.specs.private.Walks.{after, first_part, other_parts, has_part, binding, Binding, binder_declared, binder_step}
-use Rattle.asl_blocks.proofs.Chains.{after_one}
+use Rattle.asl_blocks.specs.private.Walks.{after, first_part, other_parts, has_part, binding, Binding, binder_declared, binder_step, Bounds, index_declared}
+use Rattle.asl_blocks.proofs.Chains.{after_one, append_nothing}
 
 pub map_last : {A B : Type 0} (f : A → B) (xs : List A) (x : A) → map f (xs ++ x ∷ []) ≡ map f xs ++ f x ∷ []
 map_last f [] x = refl
@@ -53,9 +64,33 @@ pub met_then : {A B C D : Type 0} (v : A → B) (w : D → C) (e : Refused) (r :
 met_then v w (At fault) r s f is h = is ∙ ap (λ q. q >>= f) h
 met_then v w NoMemory r s f is h = tt
 
--- what an answer reports is also what one reports that is seen otherwise, by a rule that goes on from the first
-pub met_on : {A B C : Type 0} (v : A → B) (w : A → C) (f : B → C) (r : Result A Refused) (x : Result B Fault) (y : Result C Fault) →
-    ((a : A) → f (v a) ≡ w a) → y ≡ (x >>= λ b. Ok (f b)) → Met v r x → Met w r y
-met_on v w f (Ok a) x y same is h = is ∙ ap (λ q. q >>= λ b. Ok (f b)) h ∙ ap Ok (same a)
-met_on v w f (Err (At e)) x y same is h = is ∙ ap (λ q. q >>= λ b. Ok (f b)) h
-met_on v w f (Err NoMemory) x y same is h = tt
+-- ---- tests that suit
+
+-- there are some
+pub suiting : SomeTests WIDTH_LIMIT
+suiting = some_tests WIDTH_LIMIT limit_within
+
+pub suits : Suits suiting.tests
+suits = record { right = suiting.right; limit = suiting.within }
+
+-- ---- names that are cut off
+
+front : (xs more : List Entry) → take (length xs) (xs ++ more) ≡ xs
+front xs more = take-append_seam xs more
+
+whole : (xs : List Entry) → take (length xs) xs ≡ xs
+whole xs = ap (take (length xs)) (sym (append_nothing xs)) ∙ front xs []
+
+-- the names before that of a catcher stand at the beginning
+pub caught_cut : (i : Option Ident) (T : Ty) (B C : Body) → with_caught i T B ≡ Ok C → take (length B.scope.names) C.scope.names ≡ B.scope.names
+caught_cut None T B C h = ap (λ (x : Body). take (length B.scope.names) x.scope.names) (sym (ok_ok B C h)) ∙ whole B.scope.names
+caught_cut (Some i) T B C h =
+    let u = then_ok (need (is_free i.text B.scope.names) T01 i.span) (Ok (body_names B (B.scope.names ++ fixed i.text T None ∷ []))) C h in
+    ap (λ (x : Body). take (length B.scope.names) x.scope.names) (sym (ok_ok (body_names B (B.scope.names ++ fixed i.text T None ∷ [])) C u.then)) ∙ front B.scope.names (fixed i.text T None ∷ [])
+
+-- and those before the index of a loop
+pub index_cut : (t : Tests) (i : Ident) (d : Direction) (a b : Expr) (x : Bounds) (B C : Body) → index_declared t i d a b x B ≡ Ok C → take (length B.scope.names) C.scope.names ≡ B.scope.names
+index_cut t i d a b x B C h =
+    let D : Body = with_index i (index_type t d a b B.scope) B in
+    let u = then_ok (index_rule i x.from x.to B) (Ok D) C h in
+    ap (λ (y : Body). take (length B.scope.names) y.scope.names) (sym (ok_ok D C u.then)) ∙ front B.scope.names (fixed i.text (index_type t d a b B.scope) (Some (atom_at (next_atom B.scope.names))) ∷ [])

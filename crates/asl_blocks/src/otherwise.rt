@@ -1,6 +1,6 @@
 //! What a `case` or a `try` does otherwise.
 
-ghost use Rattle.std.specs.Prelude.{◌≡◌, ◌<◌};
+ghost use Rattle.std.specs.Prelude.{◌≡◌, ◌<◌, OnOk};
 ghost use Rattle.asl_rules.specs.Tests.{Tests};
 ghost use Rattle.asl_types.specs.private.Answers.{Met};
 ghost use Rattle.asl_types.specs.Suits.{Suits};
@@ -28,7 +28,7 @@ pub fn check_otherwise<'a, L: Fn(&mut Scope<'a>, &Body, &'a [Stmt]) -> Result<Li
     requires blocks { Blocks (stmt_size here.now.stmt.now) (L.pre here.now.list) (L.post here.now.list) }
     requires inside { otherwise_size otherwise.now < stmt_size here.now.stmt.now }
     ensures rule { (t : Tests) → Suits t → Met last_listed_of result (last_shut (walk_otherwise t otherwise.now) (body_of names.old body.now)) }
-    ensures kept { names.new ≡ names.old }
+    ensures kept { OnOk result (names.new ≡ names.old) }
 {
     match otherwise {
         Otherwise::NoOtherwise => Ok(LastListed {

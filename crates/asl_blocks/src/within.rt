@@ -2,7 +2,7 @@
 //! parameter, so that each is proved by itself, and only the three that begin lists and statements (`lists.rt`) call one
 //! another.
 
-ghost use Rattle.std.specs.Prelude.{◌≡◌, ◌<◌, map};
+ghost use Rattle.std.specs.Prelude.{◌≡◌, ◌<◌, map, OnOk};
 ghost use Rattle.asl_rules.specs.Tests.{Tests};
 ghost use Rattle.asl_types.specs.private.Answers.{Met};
 ghost use Rattle.asl_types.specs.Suits.{Suits};
@@ -33,7 +33,7 @@ pub fn check_inside<'a, L: Fn(&mut Scope<'a>, &Body, &'a [Stmt]) -> Result<Liste
     requires blocks { Blocks (stmt_size here.now.stmt.now) (L.pre here.now.list) (L.post here.now.list) }
     requires inside { stmts_size stmts.now < stmt_size here.now.stmt.now }
     ensures rule { (t : Tests) → Suits t → Met (listed_of names.old) result (shut (map (walk_stmt t) stmts.now) (body_of names.old body.now)) }
-    ensures kept { names.new ≡ names.old }
+    ensures kept { OnOk result (names.new ≡ names.old) }
 {
     (here.list)(names, body, stmts)
 }

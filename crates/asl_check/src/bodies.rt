@@ -1,25 +1,22 @@
 //! The bodies of subprograms.
 
-ghost use Rattle.std.specs.Prelude.{◌≡◌, List, Some, map, IfOk, OnOk};
-ghost use Rattle.asl_rules.specs.declarations.Signatures as rules;
+ghost use Rattle.std.specs.Prelude.{◌≡◌, List, map, IfOk, OnOk};
+ghost use Rattle.asl_rules.specs.declarations.Programs as rules;
 ghost use Rattle.asl_rules.specs.declarations.Scopes.{Entry};
 ghost use Rattle.asl_rules.specs.Tests.{Tests};
 ghost use Rattle.asl_types.specs.private.Answers.{Met};
-ghost use Rattle.asl_types.specs.private.Fronts.{IsFront};
 ghost use Rattle.asl_types.specs.Suits.{Suits};
 ghost use Rattle.asl_tree.specs.Acts.{all_acts};
 ghost use Rattle.asl_tree.specs.Funcs.{func_of, all_funcs};
-ghost use Rattle.asl_decl.specs.Heads.{head_of};
-ghost use Rattle.asl_decl.specs.Stages.{HasEnded, IsAnswered, IsAt, IsBody, decls_in};
+ghost use Rattle.asl_decl.specs.Heads.{head_of, heads_of};
 
 use asl_blocks::body::{Body, Listed};
-use asl_decl::{Table, enter_body};
+use asl_decl::enter_body;
 use asl_falling::falls_through;
 use asl_stmt::lists::check_stmts;
 use asl_subprograms::{Param, Signature, Subprograms};
-use asl_syn::code::{Fault, Refused, StaticCode};
+use asl_syn::code::{Refused, StaticCode};
 use asl_syn::tree::Func;
-use asl_tree::SubId;
 use asl_tree::act::TreeFunc;
 use asl_tree::body::TreeBody;
 use asl_types::answer::fault;
@@ -105,9 +102,8 @@ fn tree_func(
 }
 
 /// A subprogram with the typed trees of its body: the statements are judged in order, and then T17 comes at its name where
-/// the end of a function can be reached. The names of the body stay.
-#[tactic(auto, using(asl_types::proofs::FrontLemmas::front_then))]
-fn check_opened<'a>(
+/// the end of a function can be reached.
+fn check_body<'a>(
     alloc: Global,
     names: &mut Scope<'a>,
     subs: &Subprograms,
@@ -115,8 +111,9 @@ fn check_opened<'a>(
     signature: &Signature,
 ) -> Result<TreeFunc, Refused>
     ensures rule { (t : Tests) → Suits t → Met func_of result (rules.body_rule t subs.now (head_of names.old f.now signature.now)) }
-    ensures front { IsFront names.old names.new }
+    ensures kept { OnOk result (names.new ≡ names.old) }
 {
+    let height = names.len();
     enter_body(alloc, names, f, signature)?;
     let body = Body {
         alloc,
@@ -126,64 +123,31 @@ fn check_opened<'a>(
         handles: false,
     };
     let list = check_stmts(names, &body, f.body.as_slice())?;
+    names.truncate(height);
     if !may_end(signature, f) {
         return fault(StaticCode::T17, f.name.span);
     }
     Ok(tree_func(alloc, f, signature, list)?)
 }
 
-/// The same subprogram, behind which the names of its body are visible no more, also where the body has a fault.
-#[tactic(auto, using(asl_types::proofs::FrontLemmas::front_taken))]
-fn check_body<'a>(
+/// The bodies of subprograms with these signatures, in source order.
+pub(crate) fn check_bodies<'a>(
     alloc: Global,
     names: &mut Scope<'a>,
     subs: &Subprograms,
-    f: &'a Func,
-    signature: &Signature,
-) -> Result<TreeFunc, Refused>
-    ensures rule { (t : Tests) → Suits t → Met func_of result (rules.body_rule t subs.now (head_of names.old f.now signature.now)) }
-    ensures kept { names.new ≡ names.old }
+    funcs: &[&'a Func],
+) -> Result<Items<TreeFunc>, Refused>
+    ensures rule { (t : Tests) → Suits t → Met all_funcs result (rules.bodies_rule t subs.now (heads_of names.old (map (λ f. f.now) funcs.now) subs.now)) }
+    ensures kept { OnOk result (names.new ≡ names.old) }
 {
-    let height = names.len();
-    let tree = check_opened(alloc, names, subs, f, signature);
-    names.truncate(height);
-    tree
-}
-
-/// What the body of a subprogram that is given out comes to.
-fn judge_body(
-    alloc: Global,
-    table: &mut Table<'_>,
-    id: SubId,
-) -> Result<Result<TreeFunc, Fault>, AllocError>
-    requires at { (t : Tests) → Suits t → IsAt t table.old }
-    requires due { table.old.due ≡ Some id }
-    ensures same { OnOk result (table.new ≡ table.old) }
-    ensures rule { (t : Tests) → Suits t → IfOk result (IsBody t table.old id) }
-{
-    let f = table.func(id);
-    let Some(signature) = table.heads.signature(id) else {
-        unreachable!();
-    };
-    let so_far = &mut table.so_far;
-    match check_body(alloc, &mut so_far.names, &so_far.subs, f, signature) {
-        Ok(tree) => Ok(Ok(tree)),
-        Err(Refused::At(fault)) => Ok(Err(fault)),
-        Err(Refused::NoMemory) => Err(AllocError),
+    let mut trees = Items::new(alloc);
+    let mut rest = subs.signatures();
+    for f in funcs {
+        let Some((signature, more)) = rest.split_first() else {
+            return Ok(trees);
+        };
+        trees.push(check_body(alloc, names, subs, f, signature)?)?;
+        rest = more;
     }
-}
-
-/// The bodies of a program, each as it is given out.
-pub(crate) fn judge_bodies(alloc: Global, table: &mut Table<'_>) -> Result<(), AllocError>
-    requires at { (t : Tests) → Suits t → IsAt t table.old }
-    requires answered { (t : Tests) → Suits t → IsAnswered t table.old }
-    ensures at { (t : Tests) → Suits t → OnOk result (IsAt t table.new) }
-    ensures ended { OnOk result (HasEnded table.new.stage) }
-    ensures decls { OnOk result (decls_in table.new ≡ decls_in table.old) }
-{
-    while let Some(id) = table.next_body()? {
-        let answer = judge_body(alloc, table, id)?;
-        table.body(id, answer);
-    }
-    Ok(())
+    Ok(trees)
 }

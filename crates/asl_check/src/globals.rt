@@ -7,7 +7,7 @@ ghost use Rattle.asl_rules.specs.declarations.Scopes.{storage_of};
 ghost use Rattle.asl_tree.specs.Sealed.{cell_of, cell_in, cells_in, cells_of, HasItsType};
 ghost use Rattle.asl_check.specs.private.GlobalViews.{found_global, with_found};
 
-use asl_decl::{is_var, name_of};
+use asl_judge::{is_var, name_of};
 use asl_syn::tree::{Decl, StorageDecl};
 use asl_tree::Global as Cell;
 use asl_types::Scope;

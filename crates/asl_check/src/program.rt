@@ -1,28 +1,27 @@
 //! Whole programs.
 
-ghost use Rattle.std.specs.Prelude.{◌≡◌, Ok, IfOk};
+ghost use Rattle.std.specs.Prelude.{◌≡◌, length, map, IfOk};
 ghost use Rattle.asl_rules.specs.private.Grown.{AreGrown, AreReadGrown};
 ghost use Rattle.asl_rules.specs.declarations.Programs.{entries};
 ghost use Rattle.asl_tree.specs.Sealed.{IsSealed};
 ghost use Rattle.asl_rules.specs.declarations.Programs.{verdict};
-ghost use Rattle.asl_decl.specs.Heads.{declared_rule};
-ghost use Rattle.asl_decl.specs.Stages.{declared_of, decls_in};
-ghost use Rattle.asl_check.specs.private.Bringing.{with_entry_found};
+ghost use Rattle.asl_decl.specs.Heads.{declared_with, heads_of};
+ghost use Rattle.asl_check.specs.private.Bringing.{with_bodies, with_entry_found};
 ghost use Rattle.asl_rules.specs.Tests.{Tests};
 ghost use Rattle.asl_types.specs.private.Answers.{Met};
 ghost use Rattle.asl_types.specs.Suits.{Suits};
 ghost use Rattle.asl_check.specs.private.Verdicts.{accepted_of, both_verdict, HasEntries, IsReadVerdict, IsVerdict, Seals};
 ghost use Rattle.asl_accessors.specs.Judged.{final_of};
 
-use crate::bodies::judge_bodies;
+use crate::bodies::check_bodies;
 use crate::globals::find_globals;
 use asl_accessors::{Replacing, parted};
-use asl_decl::{Before, Entries, SoFar, Table, find_entries};
+use asl_decl::{Entries, Table, find_entries};
 use asl_rules::entry::Entry;
 use asl_subprograms::Subprograms;
 use asl_syn::code::Refused;
 use asl_syn::read::ReadProgram;
-use asl_syn::tree::{Decl, Program};
+use asl_syn::tree::{Decl, Func, Program};
 use asl_tree::act::TreeFunc;
 use asl_tree::{Checked, Global as Cell, Parts, SubId};
 use asl_types::Scope;
@@ -42,19 +41,18 @@ pub struct Accepted<'a> {
     pub entries: Entries,
 }
 
-/// A program whose declarations are well formed, with its entries.
-fn accept(table: Table<'_>, entry: Entry) -> Result<Accepted<'_>, Refused>
-    ensures { (t : Tests) → Suits t → declared_rule t (decls_in table.entry) ≡ Ok (declared_of table.entry) → Met (accepted_of entry) result (with_entry_found entry (declared_of table.entry)) }
+/// The bodies of a program with these signatures, and its entries.
+fn judge_bodies<'a>(
+    alloc: Global,
+    names: Scope<'a>,
+    subs: Subprograms,
+    funcs: &[&'a Func],
+    entry: Entry,
+) -> Result<Accepted<'a>, Refused>
+    ensures { (t : Tests) → Suits t → Met (accepted_of entry) result (with_bodies entry names.entry (heads_of names.entry (map (λ f. f.now) funcs.now) subs) subs t) }
 {
-    let SoFar {
-        names,
-        subs,
-        before,
-    } = table.into_judged();
-    let Before {
-        trees,
-        values: _values,
-    } = before;
+    let mut names = names;
+    let trees = check_bodies(alloc, &mut names, &subs, funcs)?;
     let entries = find_entries(entry, &subs)?;
     Ok(Accepted {
         names,
@@ -62,6 +60,21 @@ fn accept(table: Table<'_>, entry: Entry) -> Result<Accepted<'_>, Refused>
         funcs: trees,
         entries,
     })
+}
+
+/// The bodies of a program whose declarations are well formed, and its entries. It is `judge_bodies`, with the clause
+/// that `check_decls` needs.
+fn find_bodies<'a>(
+    alloc: Global,
+    names: Scope<'a>,
+    subs: Subprograms,
+    funcs: &[&'a Func],
+    entry: Entry,
+) -> Result<Accepted<'a>, Refused>
+    requires { length funcs.now ≡ length subs }
+    ensures { (t : Tests) → Suits t → Met (accepted_of entry) result (with_entry_found entry (declared_with names.entry (heads_of names.entry (map (λ f. f.now) funcs.now) subs)) t) }
+{
+    judge_bodies(alloc, names, subs, funcs, entry)
 }
 
 /// Checks declarations. They are accepted exactly where they are well formed with the entries that are asked for, and
@@ -75,10 +88,13 @@ pub fn check_decls<'a>(
 ) -> Result<Accepted<'a>, Refused>
     ensures { (t : Tests) → Suits t → Met (accepted_of entry) result (verdict entry decls.now t) }
 {
-    let mut table = Table::begin(alloc, decls)?;
-    judge_bodies(alloc, &mut table)?;
-    let table = table.finish()?;
-    accept(table, entry)
+    let Table {
+        names,
+        funcs,
+        subs,
+        globals: _globals,
+    } = Table::build(alloc, decls)?;
+    find_bodies(alloc, names, subs, funcs.as_slice(), entry)
 }
 
 /// What is made of a program that is well formed: its subprograms with their typed trees, its globals, and its entries.

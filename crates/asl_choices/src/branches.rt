@@ -111,7 +111,7 @@ fn check_branch<'a, L: Fn(&mut Scope<'a>, &Body, &'a [Stmt]) -> Result<Listed, R
     requires blocks { Blocks (stmt_size here.now.stmt.now) (L.pre here.now.list) (L.post here.now.list) }
     requires inside { branch_size b.now < stmt_size here.now.stmt.now }
     ensures rule { (t : Tests) → Suits t → Met (λ _. branches_of so_far.new) result (branch_step t (body_of names.old body.now) (walk_branch t b.now) (branches_of so_far.old)) }
-    ensures kept { names.new ≡ names.old }
+    ensures kept { OnOk result (names.new ≡ names.old) }
 {
     let (condition, stmts) = branch_parts(b);
     let condition = type_in(names, body, condition)?;
@@ -131,7 +131,7 @@ fn check_branches<'a, L: Fn(&mut Scope<'a>, &Body, &'a [Stmt]) -> Result<Listed,
     requires blocks { Blocks (stmt_size here.now.stmt.now) (L.pre here.now.list) (L.post here.now.list) }
     requires inside { branches_size others.now < stmt_size here.now.stmt.now }
     ensures rule { (t : Tests) → Suits t → Met (λ _. branches_of so_far.new) result (after (branch_step t (body_of names.old body.now)) (map (walk_branch t) others.now) (branches_of so_far.old)) }
-    ensures kept { names.new ≡ names.old }
+    ensures kept { OnOk result (names.new ≡ names.old) }
 {
     for b in others {
         check_branch(here, names, body, b, so_far)?;
@@ -148,8 +148,7 @@ pub fn check_if<'a, L: Fn(&mut Scope<'a>, &Body, &'a [Stmt]) -> Result<Listed, R
 ) -> Result<Done, Refused>
     requires blocks { Blocks (stmt_size here.now.stmt.now) (L.pre here.now.list) (L.post here.now.list) }
     requires inside { stmts_size branching.now.first.now + (branches_size branching.now.others.now + stmts_size branching.now.last.now) < stmt_size here.now.stmt.now }
-    ensures rule { (t : Tests) → Suits t → Met (done_of names.new) result (walks.if_walk t branching.now.span branching.now.condition.now (map (walk_stmt t) branching.now.first.now) (map (walk_branch t) branching.now.others.now) (map (walk_stmt t) branching.now.last.now) (body_of names.old body.now)) }
-    ensures kept { names.new ≡ names.old }
+    ensures { (t : Tests) → Suits t → Met (done_of names.new) result (walks.if_walk t branching.now.span branching.now.condition.now (map (walk_stmt t) branching.now.first.now) (map (walk_branch t) branching.now.others.now) (map (walk_stmt t) branching.now.last.now) (body_of names.old body.now)) }
 {
     let condition = type_in(names, body, branching.condition)?;
     let first = check_inside(here, names, body, branching.first)?;

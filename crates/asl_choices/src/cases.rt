@@ -162,7 +162,7 @@ fn check_alternative<'a, L: Fn(&mut Scope<'a>, &Body, &'a [Stmt]) -> Result<List
     requires blocks { Blocks (stmt_size here.now.stmt.now) (L.pre here.now.list) (L.post here.now.list) }
     requires inside { alternative_size a.now < stmt_size here.now.stmt.now }
     ensures rule { (t : Tests) → Suits t → Met (λ _. alternatives_of so_far.new) result (alternative_step t ty.now (body_of names.old body.now) (walk_alternative t a.now) (alternatives_of so_far.old)) }
-    ensures kept { names.new ≡ names.old }
+    ensures kept { OnOk result (names.new ≡ names.old) }
 {
     let (patterns, condition, stmts) = alternative_parts(a);
     let patterns = check_patterns(names, body, patterns, ty)?;
@@ -183,7 +183,7 @@ fn check_alternatives<'a, L: Fn(&mut Scope<'a>, &Body, &'a [Stmt]) -> Result<Lis
     requires blocks { Blocks (stmt_size here.now.stmt.now) (L.pre here.now.list) (L.post here.now.list) }
     requires inside { alternatives_size alternatives.now < stmt_size here.now.stmt.now }
     ensures rule { (t : Tests) → Suits t → Met alternatives_of result (after (alternative_step t ty.now (body_of names.old body.now)) (map (walk_alternative t) alternatives.now) nothing_gathered) }
-    ensures kept { names.new ≡ names.old }
+    ensures kept { OnOk result (names.new ≡ names.old) }
 {
     let mut so_far = Alternatives::new(body.alloc);
     for a in alternatives {
@@ -210,8 +210,7 @@ pub fn check_case<'a, L: Fn(&mut Scope<'a>, &Body, &'a [Stmt]) -> Result<Listed,
 ) -> Result<Done, Refused>
     requires blocks { Blocks (stmt_size here.now.stmt.now) (L.pre here.now.list) (L.post here.now.list) }
     requires inside { alternatives_size choosing.now.alternatives.now + otherwise_size choosing.now.last.now < stmt_size here.now.stmt.now }
-    ensures rule { (t : Tests) → Suits t → Met (done_of names.new) result (walks.case_walk t choosing.now.span choosing.now.value.now (map (walk_alternative t) choosing.now.alternatives.now) (walk_otherwise t choosing.now.last.now) (body_of names.old body.now)) }
-    ensures kept { names.new ≡ names.old }
+    ensures { (t : Tests) → Suits t → Met (done_of names.new) result (walks.case_walk t choosing.now.span choosing.now.value.now (map (walk_alternative t) choosing.now.alternatives.now) (walk_otherwise t choosing.now.last.now) (body_of names.old body.now)) }
 {
     let value = type_in(names, body, choosing.value)?;
     let first = check_alternatives(here, names, body, choosing.alternatives, value.get().ty())?;

@@ -2,7 +2,7 @@
 ghost use Rattle.std.specs.Prelude.{◌≡◌, [], map, Err as TheErr};
 ghost use Rattle.asl_bits.specs.declared.TheConstants.{WIDTH_LIMIT};
 ghost use Rattle.asl_rules.specs.declarations.Constants.{constant, initial_value};
-ghost use Rattle.asl_rules.specs.declarations.InitialValues.{evaluated};
+ghost use Rattle.asl_rules.specs.declarations.Declarations.{evaluated};
 ghost use Rattle.asl_rules.specs.runs.Plans.{Pure};
 ghost use Rattle.asl_rules.specs.runs.Pures as pures;
 ghost use Rattle.asl_rules.specs.declarations.Scopes.{standing_of};

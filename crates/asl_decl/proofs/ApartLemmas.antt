@@ -8,7 +8,7 @@ use Rattle.asl_syn.specs.declared.tree.Func.{Func}
 use Rattle.asl_rules.specs.Faults.{◌>>◌, need}
 use Rattle.asl_rules.specs.types.Types.{Parts, same_kinds}
 use Rattle.asl_rules.specs.declarations.Scopes.{Entry, Signature, choose_from}
-use Rattle.asl_rules.specs.declarations.Signatures.{clashes, overloads_rule}
+use Rattle.asl_rules.specs.declarations.Programs.{clashes, overloads_rule}
 use Rattle.asl_subprograms.specs.private.Apart.{is_before, is_apart, apart_from, apart_rule}
 use Rattle.asl_decl.specs.Heads.{heads_of}
 

@@ -9,7 +9,7 @@ use Rattle.asl_syn.specs.declared.tree.Func.{Func}
 use Rattle.asl_syn.specs.declared.tree.Param.{Param}
 use Rattle.asl_rules.specs.Faults.{◌>>=◌, ◌>>◌, need}
 use Rattle.asl_rules.specs.values.Members.{has_name}
-use Rattle.asl_rules.specs.declarations.Signatures.{params_free, formals_free}
+use Rattle.asl_rules.specs.declarations.Programs.{params_free, formals_free}
 use Rattle.asl_rules.specs.declarations.Scopes.{Entry, is_free, is_absent}
 use Rattle.asl_names.specs.private.Firsts.{Places, first_place, kept}
 use Rattle.asl_names.proofs.FirstLemmas.{or_place, here, first_kept, same_test}

@@ -1,5 +1,5 @@
 -- Names of parameters and formals that stand once and aren't visible go last, each with what it counts as.
-use Rattle.std.proofs.Common.{◌≡◌, ℕ, Bool, true, false, ◌&&◌, not, List, [], ◌∷◌, ◌++◌, Option, Some, None, Result, Ok, Err, refl, sym, ap, ◌∙◌, append_assoc}
+use Rattle.std.proofs.Common.{length, take, ◌≡◌, ℕ, Bool, true, false, ◌&&◌, not, List, [], ◌∷◌, ◌++◌, Option, Some, None, Result, Ok, Err, refl, sym, ap, ◌∙◌, append_assoc}
 use Rattle.std.specs.Prelude.{if◌then◌else◌}
 use Rattle.std.proofs.lemmas.List.{append-nil}
 use Rattle.std.specs.Str.{bytes_eq}
@@ -17,10 +17,10 @@ use Rattle.asl_rules.specs.expressions.Exprs.{written}
 use Rattle.asl_rules.specs.statements.Locals.{itself}
 use Rattle.asl_rules.specs.declarations.Scopes.{Entry, Param, Standing, standing_of, is_free, is_absent, fixed, next_atom, with_entry}
 use Rattle.asl_rules.specs.declarations.Declarations.{in_names}
-use Rattle.asl_rules.specs.declarations.Signatures.{params_free, formals_free, param_written, result_rule, param_entry, params_rule, with_formals}
+use Rattle.asl_rules.specs.declarations.Programs.{params_free, formals_free, param_written, result_rule, param_entry, params_rule, with_formals}
 use Rattle.asl_rules.proofs.basics.Inversions.{ok_ok, bind_ok, then_ok, need_ok}
 use Rattle.asl_decl.specs.Heads.{params_declared, formals_declared}
-use Rattle.asl_decl.specs.private.HeadTypes.{maybe_written, params_after}
+use Rattle.asl_decl.specs.private.HeadTypes.{maybe_written, params_after, IsFront}
 
 -- ---- types that are written
 
@@ -134,3 +134,22 @@ params_are t (x ∷ ps) acc M p r =
     let q : Param = record { atom = next_atom M; ty = b.value } in
     let s = params_are t ps (acc ++ q ∷ []) (with_entry (param_entry x.name.text b.value (next_atom M)) M) p b.then in
     (q ∷ s.0, s.1 ∙ append_assoc acc (q ∷ []) s.0, s.2)
+
+-- ---- the names before
+
+pub front_first : (N : List Entry) → IsFront N N
+front_first N = record { more = []; is = sym (append-nil N) }
+
+pub front_more : (N K : List Entry) (e : Entry) → IsFront N K → IsFront N (with_entry e K)
+front_more N K e f = by (is_free e.name K)
+  where
+    by : (b : Bool) → IsFront N (if b then K ++ e ∷ [] else K)
+    by true = record { more = f.more ++ e ∷ []; is = ap (λ l. l ++ e ∷ []) f.is ∙ append_assoc N f.more (e ∷ []) }
+    by false = f
+
+take_front : (N more : List Entry) → take (length N) (N ++ more) ≡ N
+take_front [] more = refl
+take_front (e ∷ N) more = ap (λ l. e ∷ l) (take_front N more)
+
+pub front_taken : (N K M : List Entry) (n : ℕ) → IsFront N K → n ≡ length N → M ≡ take n K → M ≡ N
+front_taken N K M n f h k = k ∙ ap (λ m. take m K) h ∙ ap (take (length N)) f.is ∙ take_front N f.more

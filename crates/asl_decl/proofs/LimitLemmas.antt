@@ -11,15 +11,15 @@ use Rattle.asl_rules.specs.types.Types.{Ty, is_integer}
 use Rattle.asl_rules.specs.expressions.Typing.{Typed}
 use Rattle.asl_rules.specs.declarations.Scopes.{Entry, Param, with_class}
 use Rattle.asl_rules.specs.expressions.Exprs.{found, typed}
-use Rattle.asl_rules.specs.declarations.Barred.{limit_barred}
+use Rattle.asl_rules.specs.declarations.Barred.{barred}
 use Rattle.asl_rules.specs.declarations.Declarations.{in_names}
-use Rattle.asl_rules.specs.declarations.Signatures.{limit_typed, params_are_integers, limit_rule}
+use Rattle.asl_rules.specs.declarations.Programs.{limit_typed, params_are_integers, limit_rule}
 use Rattle.asl_decl.specs.private.Limits.{limit_after, limit_known, limit_by}
 
 in_order : (t : Tests) (f : Func) (o : Option Expr) (ps : List Param) (globals : List Entry) →
     (limit_typed t o globals >>= λ l. params_are_integers t f.params ps >> limit_rule t o l globals) ≡ limit_by t f o ps globals
 in_order t f None ps globals = refl
-in_order t f (Some e) ps globals = by (none_at T04 (limit_barred e globals)) (typed t e (with_class (in_names globals) Pure))
+in_order t f (Some e) ps globals = by (none_at T04 (barred e globals)) (typed t e (with_class (in_names globals) Pure))
   where
     by : (b : Result (Unit {0}) Fault) (r : Result Typed Fault) →
         ((b >> r >>= λ (S : Typed). Ok (Some S)) >>= λ (l : Option Typed). params_are_integers t f.params ps >> limit_rule t (Some e) l globals) ≡

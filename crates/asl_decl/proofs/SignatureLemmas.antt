@@ -15,8 +15,7 @@ use Rattle.asl_rules.specs.types.Writing.{Written}
 use Rattle.asl_rules.specs.expressions.Exprs.{written}
 use Rattle.asl_rules.specs.declarations.Scopes.{Entry, Param, Signature}
 use Rattle.asl_rules.specs.declarations.Declarations.{in_names}
-use Rattle.asl_rules.specs.declarations.Signatures.{Head, params_free, formals_free, params_rule, formals_rule, result_rule, limit_typed, params_are_integers, limit_rule, with_formals, class_of, signature_rule, signatures_rule}
-use Rattle.asl_rules.specs.declarations.Environments.{funcs_of}
+use Rattle.asl_rules.specs.declarations.Programs.{Head, funcs_of, params_free, formals_free, params_rule, formals_rule, result_rule, limit_typed, params_are_integers, limit_rule, with_formals, class_of, signature_rule, signatures_rule}
 use Rattle.asl_types.specs.View.{parts_of}
 use Rattle.asl_decl.specs.Heads.{params_declared, formals_declared, head_of, heads_of}
 use Rattle.asl_decl.specs.private.HeadTypes.{maybe_written, params_after, formals_after, HeadTypes, types_with, head_types}

@@ -1,56 +1,55 @@
--- What declarations bring, by the phases: each that is well formed leads to the next, and the first fault is that of all.
-use Rattle.std.proofs.Common.{◌≡◌, List, [], Ok, Err, refl, ap, ◌∙◌}
-use Rattle.std.specs.Prelude.{Result}
+-- What declarations bring: the judgements of all, and the signatures over the names outside bodies.
+use Rattle.std.proofs.Common.{◌≡◌, List, [], Result, Ok, Err, refl, sym, ap, ◌∙◌}
 use Rattle.asl_syn.specs.declared.code.Fault.{Fault}
 use Rattle.asl_syn.specs.declared.tree.Decl.{Decl}
+use Rattle.asl_syn.specs.declared.tree.Func.{Func}
 use Rattle.asl_rules.specs.Faults.{◌>>=◌, ◌>>◌}
 use Rattle.asl_rules.specs.Tests.{Tests}
-use Rattle.asl_rules.specs.runs.Trees.{TreeFunc}
 use Rattle.asl_rules.specs.declarations.Names.{names_rule, all_declared}
 use Rattle.asl_rules.specs.declarations.Uses.{cycles_rule}
-use Rattle.asl_rules.specs.declarations.Scopes.{Entry}
-use Rattle.asl_rules.specs.declarations.Environments.{funcs_of}
-use Rattle.asl_rules.specs.declarations.Signatures.{Head, signatures_rule, signatures, overloads_rule, bodies_rule}
-use Rattle.asl_rules.specs.declarations.Turns.{globals_rule}
-use Rattle.asl_rules.proofs.basics.Inversions.{err_ok}
-use Rattle.asl_decl.specs.Heads.{Declared, declared_with, order_rule, declared_rule}
+use Rattle.asl_rules.specs.declarations.Scopes.{Entry, Signature}
+use Rattle.asl_rules.specs.declarations.Turns.{final, faults_rule, names_of_program}
+use Rattle.asl_rules.specs.declarations.Programs.{Head, funcs_of, signatures_rule, overloads_rule}
+use Rattle.asl_judge.specs.Tables.{declarations_rule}
+use Rattle.asl_subprograms.specs.private.Apart.{apart_rule}
+use Rattle.asl_decl.specs.Heads.{heads_of, Declared, declared_with, declared_rule}
+use Rattle.asl_decl.specs.private.Signatures.{signatures_found, declared_found}
+use Rattle.asl_decl.proofs.ApartLemmas.{overloads_are}
+use Rattle.asl_decl.proofs.SignatureLemmas.{heads_are, signatures_are}
+
+-- ---- subprograms
+
+module _ (t : Tests) (fs : List Func) (N : List Entry) where
+  abbrev subprograms_rule : Result Declared Fault
+  subprograms_rule = signatures_rule t N fs >>= λ hs. overloads_rule [] hs >> Ok (declared_with N hs)
+
+  by_found : (r : Result (List Signature) Fault) → ((r >>= λ ss. Ok (heads_of N fs ss)) >>= λ (hs : List Head). overloads_rule [] hs >> Ok (declared_with N hs)) ≡ (r >>= λ ss. apart_rule fs ss >> Ok (declared_with N (heads_of N fs ss)))
+  by_found (Ok ss) = ap (λ q. q >> Ok (declared_with N (heads_of N fs ss))) (overloads_are N fs ss)
+  by_found (Err f) = refl
+
+  subprograms_are : subprograms_rule ≡ declared_found t fs N
+  subprograms_are =
+      ap (λ (r : Result (List Head) Fault). r >>= λ hs. overloads_rule [] hs >> Ok (declared_with N hs)) (heads_are t fs N)
+      ∙ by_found (signatures_found t fs N)
+      ∙ ap (λ (r : Result (List Signature) Fault). r >>= λ ss. apart_rule fs ss >> Ok (declared_with N (heads_of N fs ss))) (sym (signatures_are t fs N))
+
+-- ---- the rule, in two steps
 
 module _ (t : Tests) (ds : List Decl) where
-  behind_order : (r s : Result (Unit {0}) Fault) (k : Result Declared Fault) → (r >> s) ≡ Ok tt → (r >> s >> k) ≡ k
-  behind_order (Ok x) (Ok y) k h = refl
-  behind_order (Ok x) (Err e) k h = err_ok e tt h
-  behind_order (Err e) s k h = err_ok e tt h
+  three_steps : (a b c : Result (Unit {0}) Fault) (N : List Entry) (f : List Entry → Result Declared Fault) → (a >> b >> (c >> Ok N) >>= f) ≡ (((a >> b) >> c) >> f N)
+  three_steps (Ok x) (Ok y) (Ok z) N f = refl
+  three_steps (Ok x) (Ok y) (Err e) N f = refl
+  three_steps (Ok x) (Err e) c N f = refl
+  three_steps (Err e) b c N f = refl
 
-  abbrev of_heads : List Entry → List Head → Result Declared Fault
-  of_heads names hs = overloads_rule [] hs >> bodies_rule t (signatures hs) hs >>= λ trees. Ok (declared_with names hs trees)
+  declared_is : declared_rule t ds ≡ (declarations_rule t ds >> subprograms_rule t (funcs_of ds) (names_of_program t ds))
+  declared_is = three_steps (names_rule [] (all_declared ds)) (cycles_rule ds ds) (faults_rule (final t ds)) (names_of_program t ds) (subprograms_rule t (funcs_of ds))
 
-  abbrev of_names : List Entry → Result Declared Fault
-  of_names names = signatures_rule t names (funcs_of ds) >>= λ hs. of_heads names hs
-
-  first : order_rule ds ≡ Ok tt → declared_rule t ds ≡ (globals_rule t ds >>= λ names. of_names names)
-  first h = behind_order (names_rule [] (all_declared ds)) (cycles_rule ds ds) (globals_rule t ds >>= λ names. of_names names) h
-
-  pub globals_stop : (f : Fault) → order_rule ds ≡ Ok tt → globals_rule t ds ≡ Err f → declared_rule t ds ≡ Err f
-  globals_stop f h g = first h ∙ ap (λ r. r >>= λ names. of_names names) g
-
-  module _ (names : List Entry) (h : order_rule ds ≡ Ok tt) (g : globals_rule t ds ≡ Ok names) where
-    second : declared_rule t ds ≡ of_names names
-    second = first h ∙ ap (λ r. r >>= λ ns. of_names ns) g
-
-    pub signatures_stop : (f : Fault) → signatures_rule t names (funcs_of ds) ≡ Err f → declared_rule t ds ≡ Err f
-    signatures_stop f k = second ∙ ap (λ r. r >>= λ hs. of_heads names hs) k
-
-    module _ (hs : List Head) (k : signatures_rule t names (funcs_of ds) ≡ Ok hs) where
-      third : declared_rule t ds ≡ of_heads names hs
-      third = second ∙ ap (λ r. r >>= λ hs. of_heads names hs) k
-
-      pub overloads_stop : (f : Fault) → overloads_rule [] hs ≡ Err f → declared_rule t ds ≡ Err f
-      overloads_stop f o = third ∙ ap (λ r. r >> bodies_rule t (signatures hs) hs >>= λ trees. Ok (declared_with names hs trees)) o
-
-      pub bodies_then : overloads_rule [] hs ≡ Ok tt →
-          declared_rule t ds ≡ (bodies_rule t (signatures hs) hs >>= λ trees. Ok (declared_with names hs trees))
-      bodies_then o = third ∙ ap (λ r. r >> bodies_rule t (signatures hs) hs >>= λ trees. Ok (declared_with names hs trees)) o
-
-      pub all_fine : (trees : List TreeFunc) → overloads_rule [] hs ≡ Ok tt → bodies_rule t (signatures hs) hs ≡ Ok trees →
-          declared_rule t ds ≡ Ok (declared_with names hs trees)
-      all_fine trees o b = bodies_then o ∙ ap (λ r. r >>= λ ts. Ok (declared_with names hs ts)) b
+  -- where names, order, types and storage are well formed, what is left is found over the names outside bodies
+  pub table_then : (names : List Entry) (fs : List Func) → declarations_rule t ds ≡ Ok tt → names ≡ names_of_program t ds → fs ≡ funcs_of ds → declared_rule t ds ≡ declared_found t fs names
+  table_then names fs h n e =
+      declared_is
+      ∙ ap (λ r. r >> subprograms_rule t (funcs_of ds) (names_of_program t ds)) h
+      ∙ subprograms_are t (funcs_of ds) (names_of_program t ds)
+      ∙ ap (declared_found t (funcs_of ds)) (sym n)
+      ∙ ap (λ gs. declared_found t gs names) (sym e)

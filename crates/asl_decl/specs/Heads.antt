@@ -1,5 +1,5 @@
 -- The subprograms of a program with the names that their bodies begin with, and what its declarations bring.
-use Rattle.std.specs.Prelude.{List, [], ◌∷◌, Result, Ok}
+use Rattle.std.specs.Prelude.{ℕ, List, [], ◌∷◌, Result, Ok, map}
 use Rattle.asl_syn.specs.declared.code.Fault.{Fault}
 use Rattle.asl_syn.specs.declared.tree.Decl.{Decl}
 use Rattle.asl_syn.specs.declared.tree.Formal.{Formal}
@@ -13,9 +13,8 @@ use Rattle.asl_rules.specs.declarations.Uses.{cycles_rule}
 use Rattle.asl_rules.specs.declarations.Turns.{globals_rule}
 use Rattle.asl_rules.specs.declarations.Scopes.{Entry, Signature, Param, fixed, with_entry}
 use Rattle.asl_rules.specs.statements.Locals.{itself}
-use Rattle.asl_rules.specs.declarations.Signatures.{Head, param_entry, signatures_rule, signatures, overloads_rule, bodies_rule}
-use Rattle.asl_rules.specs.runs.Trees.{TreeFunc}
-use Rattle.asl_rules.specs.declarations.Environments.{funcs_of}
+use Rattle.asl_rules.specs.declarations.Programs.{Head, funcs_of, param_entry, signatures_rule, overloads_rule}
+use Rattle.asl_decl.specs.declared.table.Table.{Table}
 
 -- ---- the names of a body
 
@@ -42,21 +41,16 @@ heads_of names fs ss = []
 
 -- ---- what declarations bring
 
--- the names that are visible outside bodies, and the subprograms with their typed trees
+-- the names that are visible outside bodies, and the subprograms
 pub record Declared : Type 0 where
   pub names : List Entry
   pub heads : List Head
-  pub trees : List TreeFunc
 
-abbrev pub declared_with : List Entry → List Head → List TreeFunc → Declared
-declared_with names heads trees = record { names = names; heads = heads; trees = trees }
+abbrev pub declared_with : List Entry → List Head → Declared
+declared_with names heads = record { names = names; heads = heads }
 
--- names, and declarations that reach themselves
-abbrev pub order_rule : List Decl → Result (Unit {0}) Fault
-order_rule ds = names_rule [] (all_declared ds) >> cycles_rule ds ds
-
--- what declarations bring that are well formed: names, declarations that reach themselves, types and storage with the subprograms that these reach,
--- signatures, subprograms of one name whose formals have the same kinds, and bodies
+-- what declarations bring that are well formed, with the signatures of their subprograms: names, declarations that reach themselves, types and storage,
+-- signatures, and subprograms of one name whose formals have the same kinds
 abbrev pub declared_rule : Tests → List Decl → Result Declared Fault
 declared_rule t ds =
     names_rule [] (all_declared ds) >>
@@ -64,5 +58,7 @@ declared_rule t ds =
     globals_rule t ds >>= λ names.
     signatures_rule t names (funcs_of ds) >>= λ hs.
     overloads_rule [] hs >>
-    bodies_rule t (signatures hs) hs >>= λ trees.
-    Ok (declared_with names hs trees)
+    Ok (declared_with names hs)
+
+abbrev pub declared_of : Table → Declared
+declared_of x = declared_with x.names (heads_of x.names (map (λ f. f.now) x.funcs) x.subs)

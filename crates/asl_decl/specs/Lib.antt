@@ -1,6 +1,4 @@
 pub mod Entered
 pub mod Globals
 pub mod Heads
-pub mod Outcomes
-pub mod Stages
 pub mod private

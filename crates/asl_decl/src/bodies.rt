@@ -2,11 +2,10 @@
 
 ghost use Rattle.std.specs.Prelude.{◌≡◌, IfOk, IfErr, OnOk, option_map};
 ghost use Rattle.asl_rules.specs.statements.Locals as locals;
-ghost use Rattle.asl_rules.specs.declarations.Signatures.{type_or_itself, param_entry};
+ghost use Rattle.asl_rules.specs.declarations.Programs.{type_or_itself, param_entry};
 ghost use Rattle.asl_rules.specs.declarations.Scopes as scopes;
 ghost use Rattle.asl_rules.specs.declarations.Scopes.{with_entry};
 ghost use Rattle.asl_rules.specs.types.Types.{integer_of, only_width};
-ghost use Rattle.asl_types.specs.private.Fronts.{IsFront};
 ghost use Rattle.asl_types.specs.View.{parts_of};
 ghost use Rattle.asl_decl.specs.Heads as rules;
 
@@ -35,7 +34,6 @@ fn param_type(alloc: Global, ty: Option<&Ty>, number: Atom) -> Result<Ty, AllocE
 }
 
 /// The name of a parameter becomes visible.
-#[tactic(auto, using(asl_types::proofs::FrontLemmas::front_first))]
 pub(crate) fn declare_param<'a>(
     alloc: Global,
     names: &mut Scope<'a>,
@@ -44,7 +42,6 @@ pub(crate) fn declare_param<'a>(
 ) -> Result<(), Refused>
     ensures declared { OnOk result (names.new ≡ with_entry (param_entry name.now param.now.ty param.now.atom) names.old) }
     ensures memory { IfErr result (λ e. e ≡ Refused.NoMemory) }
-    ensures front { IsFront names.old names.new }
 {
     let ty = param_type(alloc, param.ty(), param.atom())?;
     let counted = counted_at(alloc, param.atom())?;
@@ -52,7 +49,6 @@ pub(crate) fn declare_param<'a>(
 }
 
 /// The names of parameters become visible in order, each where it isn't.
-#[tactic(auto, using(asl_types::proofs::FrontLemmas::front_first, asl_types::proofs::FrontLemmas::front_then))]
 fn declare_params<'a>(
     alloc: Global,
     names: &mut Scope<'a>,
@@ -61,7 +57,6 @@ fn declare_params<'a>(
 ) -> Result<(), Refused>
     ensures declared { OnOk result (names.new ≡ rules.params_declared written.now params.now names.old) }
     ensures memory { IfErr result (λ e. e ≡ Refused.NoMemory) }
-    ensures front { IsFront names.old names.new }
 {
     let mut rest = params;
     for p in written {
@@ -79,7 +74,6 @@ fn declare_params<'a>(
 // ---- formals
 
 /// The name of a formal becomes visible.
-#[tactic(auto, using(asl_types::proofs::FrontLemmas::front_first))]
 fn declare_formal<'a>(
     alloc: Global,
     names: &mut Scope<'a>,
@@ -88,14 +82,12 @@ fn declare_formal<'a>(
 ) -> Result<(), Refused>
     ensures declared { OnOk result (names.new ≡ with_entry (scopes.fixed name.now ty.now (locals.itself ty.now names.old)) names.old) }
     ensures memory { IfErr result (λ e. e ≡ Refused.NoMemory) }
-    ensures front { IsFront names.old names.new }
 {
     let counted = itself(alloc, ty, names)?;
     names.declare_fixed(name, ty.copy()?, counted)
 }
 
 /// The names of formals become visible in order, each where it isn't.
-#[tactic(auto, using(asl_types::proofs::FrontLemmas::front_first, asl_types::proofs::FrontLemmas::front_then))]
 fn declare_formals<'a>(
     alloc: Global,
     names: &mut Scope<'a>,
@@ -104,7 +96,6 @@ fn declare_formals<'a>(
 ) -> Result<(), Refused>
     ensures declared { OnOk result (names.new ≡ rules.formals_declared written.now (parts_of types.now) names.old) }
     ensures memory { IfErr result (λ e. e ≡ Refused.NoMemory) }
-    ensures front { IsFront names.old names.new }
 {
     let mut rest = types;
     for f in written {
@@ -121,7 +112,6 @@ fn declare_formals<'a>(
 
 /// The names that a body begins with become visible, each where it isn't: the parameters and the formals of the
 /// subprogram, with the types of its signature.
-#[tactic(auto, using(asl_types::proofs::FrontLemmas::front_then))]
 pub fn enter_body<'a>(
     alloc: Global,
     names: &mut Scope<'a>,
@@ -130,7 +120,6 @@ pub fn enter_body<'a>(
 ) -> Result<(), Refused>
     ensures declared { OnOk result (names.new ≡ rules.names_of_body f.now signature.now names.old) }
     ensures memory { IfErr result (λ e. e ≡ Refused.NoMemory) }
-    ensures front { IsFront names.old names.new }
 {
     declare_params(alloc, names, f.params.as_slice(), signature.params())?;
     declare_formals(alloc, names, f.formals.as_slice(), signature.formals())

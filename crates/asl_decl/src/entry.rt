@@ -3,7 +3,6 @@
 ghost use Rattle.std.specs.Prelude.{◌≡◌, ◌<◌, ◌&&◌, Some, pos, option_map};
 ghost use Rattle.std.specs.Option.{option_map_or};
 ghost use Rattle.asl_poly.specs.Poly.{constant_map, constant_value};
-ghost use Rattle.asl_rules.specs.declarations.Environments.{origin};
 ghost use Rattle.asl_rules.specs.declarations.Programs as rules;
 ghost use Rattle.asl_rules.specs.types.Types as types;
 ghost use Rattle.asl_decl.specs.Entered.{entries_of};
@@ -22,7 +21,7 @@ use asl_types::structure::width_in;
 
 /// The beginning of the first file.
 fn origin() -> Span
-    ensures { result ≡ origin }
+    ensures { result ≡ rules.origin }
 {
     Span {
         file: 0,

@@ -1,7 +1,7 @@
 //! The subprograms of a program.
 
 ghost use Rattle.std.specs.Prelude.{◌≡◌, [], map, IfOk};
-ghost use Rattle.asl_rules.specs.declarations.Environments as programs;
+ghost use Rattle.asl_rules.specs.declarations.Programs as programs;
 ghost use Rattle.asl_decl.specs.private.Signatures as rules;
 
 use asl_syn::tree::{Decl, Func};

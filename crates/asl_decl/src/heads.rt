@@ -4,15 +4,14 @@ ghost use Rattle.std.specs.Prelude.{◌≡◌, [], Some, None, true, IfOk, OnOk}
 ghost use Rattle.asl_rules.specs.declarations.Declarations as outside;
 ghost use Rattle.asl_rules.specs.Tests.{Tests};
 ghost use Rattle.asl_types.specs.private.Answers.{Met, Agrees};
-ghost use Rattle.asl_types.specs.private.Fronts.{IsFront};
 ghost use Rattle.asl_subprograms.specs.private.ContextView.{scope_of};
 ghost use Rattle.asl_types.specs.Suits.{Suits};
-ghost use Rattle.asl_decl.specs.private.Evaluating.{Answered};
 ghost use Rattle.asl_decl.specs.private.HeadTypes as rules;
+ghost use Rattle.asl_decl.specs.private.HeadTypes.{IsFront};
 ghost use Rattle.asl_decl.specs.private.HeadViews.{types_of};
 
 use crate::bodies::declare_param;
-use crate::written::written;
+use asl_judge::written::written;
 use asl_rules::effect::Effect;
 use asl_subprograms::{Context, Param, Subprograms};
 use asl_syn::code::Refused;
@@ -48,7 +47,7 @@ fn maybe_written(
 }
 
 /// The parameters in order, whose names become visible, each where it isn't.
-#[tactic(auto, using(asl_types::proofs::FrontLemmas::front_first, asl_types::proofs::FrontLemmas::front_more))]
+#[tactic(auto, using(crate::proofs::HeadLemmas::front_first, crate::proofs::HeadLemmas::front_more))]
 fn type_params<'a>(
     alloc: Global,
     names: &mut Scope<'a>,
@@ -57,7 +56,7 @@ fn type_params<'a>(
 ) -> Result<Items<Param>, Refused>
     requires { none.now ≡ [] }
     ensures rule { (t : Tests) → Suits t → Met (λ ps. (ps, names.new)) result (rules.params_after t params.now [] names.old) }
-    ensures front { Answered result (IsFront names.old names.new) }
+    ensures front { IfOk result (λ _. IsFront names.old names.new) }
 {
     let mut typed = Items::new(alloc);
     for p in params {
@@ -99,7 +98,7 @@ fn type_all<'a>(
 ) -> Result<HeadTypes, Refused>
     requires { none.now ≡ [] }
     ensures rule { (t : Tests) → Suits t → Met types_of result (rules.head_types t f.now names.old) }
-    ensures front { Answered result (IsFront names.old names.new) }
+    ensures front { IfOk result (λ _. IsFront names.old names.new) }
 {
     let params = type_params(alloc, names, none, f.params.as_slice())?;
     let formals = type_formals(alloc, in_names(names, none), f.formals.as_slice())?;
@@ -112,7 +111,7 @@ fn type_all<'a>(
 }
 
 /// The types of a subprogram's parameters, formals and result, over the names outside bodies.
-#[tactic(auto, using(asl_types::proofs::FrontLemmas::front_taken))]
+#[tactic(auto, using(crate::proofs::HeadLemmas::front_taken))]
 pub(crate) fn head_types<'a>(
     alloc: Global,
     names: &mut Scope<'a>,
@@ -121,10 +120,10 @@ pub(crate) fn head_types<'a>(
 ) -> Result<HeadTypes, Refused>
     requires { none.now ≡ [] }
     ensures rule { (t : Tests) → Suits t → Met types_of result (rules.head_types t f.now names.old) }
-    ensures names { Answered result (names.new ≡ names.old) }
+    ensures names { IfOk result (λ _. names.new ≡ names.old) }
 {
     let len = names.len();
-    let types = type_all(alloc, names, none, f);
+    let types = type_all(alloc, names, none, f)?;
     names.truncate(len);
-    types
+    Ok(types)
 }

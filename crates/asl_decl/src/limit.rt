@@ -5,7 +5,7 @@ ghost use Rattle.asl_rules.specs.declarations.Declarations as outside;
 ghost use Rattle.asl_rules.specs.expressions.Exprs as exprs;
 ghost use Rattle.asl_rules.specs.Faults.{need};
 ghost use Rattle.asl_rules.specs.runs.Limits.{most_activations};
-ghost use Rattle.asl_rules.specs.declarations.Signatures as rules;
+ghost use Rattle.asl_rules.specs.declarations.Programs as rules;
 ghost use Rattle.asl_rules.specs.declarations.Scopes.{with_class};
 ghost use Rattle.asl_rules.specs.Tests.{Tests};
 ghost use Rattle.asl_rules.specs.types.Types as types;
@@ -13,13 +13,13 @@ ghost use Rattle.asl_value.specs.View.{value_of};
 ghost use Rattle.asl_types.specs.private.Answers.{Agrees};
 ghost use Rattle.asl_subprograms.specs.private.ContextView.{scope_of};
 ghost use Rattle.asl_types.specs.Suits.{Suits};
-ghost use Rattle.asl_decl.specs.private.Definitions.{type_found};
+ghost use Rattle.asl_judge.specs.private.Definitions.{type_found};
 ghost use Rattle.asl_decl.specs.private.Limits as limits;
 
-use crate::barred::check_limit_unbarred;
 use crate::heads::in_names;
-use crate::values::known;
-use crate::written::typed;
+use asl_judge::barred::check_unbarred;
+use asl_judge::values::known;
+use asl_judge::written::typed;
 use asl_rules::effect::Effect;
 use asl_shared::Held;
 use asl_subprograms::{Context, Param, Subprograms};
@@ -133,7 +133,7 @@ fn written_limit(
     requires { none.now ≡ [] }
     ensures { (t : Tests) → Suits t → Agrees result (limits.limit_written t f.now e.now params.now names.now) }
 {
-    check_limit_unbarred(alloc, e, names)?;
+    check_unbarred(alloc, e, names)?;
     let ty = Held::new(typed_pure(alloc, names, none, e)?);
     check_params(f.params.as_slice(), params)?;
     check_integer(ty.get(), place(e))?;

@@ -1,7 +1,7 @@
 //! The signatures of subprograms, in source order.
 
 ghost use Rattle.std.specs.Prelude.{◌≡◌, [], length, map, IfOk};
-ghost use Rattle.asl_rules.specs.declarations.Signatures as programs;
+ghost use Rattle.asl_rules.specs.declarations.Programs as programs;
 ghost use Rattle.asl_rules.specs.Tests.{Tests};
 ghost use Rattle.asl_types.specs.private.Answers.{Agrees};
 ghost use Rattle.asl_types.specs.Suits.{Suits};
@@ -9,10 +9,10 @@ ghost use Rattle.asl_types.specs.View.{parts_of};
 ghost use Rattle.asl_decl.specs.private.HeadViews.{types_of};
 ghost use Rattle.asl_decl.specs.private.Signatures as rules;
 
-use crate::definitions::name_of;
 use crate::free::check_free;
 use crate::heads::{HeadTypes, head_types};
 use crate::limit::limit_of;
+use asl_judge::name_of;
 use asl_rules::effect::Effect;
 use asl_subprograms::{Signature, Subprograms};
 use asl_syn::code::Refused;
@@ -47,7 +47,7 @@ fn with_types(name: Name, class: Effect, types: HeadTypes, limit: i128) -> Signa
 }
 
 /// The signature of a subprogram, over the names outside bodies.
-pub(crate) fn find_signature<'a>(
+fn find_signature<'a>(
     alloc: Global,
     names: &mut Scope<'a>,
     none: &Subprograms,
@@ -55,11 +55,30 @@ pub(crate) fn find_signature<'a>(
 ) -> Result<Signature, Refused>
     requires { none.now ≡ [] }
     ensures rule { (t : Tests) → Suits t → Agrees result (rules.signature_found t f.now names.old) }
-    ensures names { Answered result (names.new ≡ names.old) }
+    ensures names { IfOk result (λ _. names.new ≡ names.old) }
 {
     check_free(alloc, f, names)?;
     let name = name_of(alloc, f.name.text.as_slice())?;
     let types = head_types(alloc, names, none, f)?;
     let limit = limit_of(alloc, names, none, f, types.params.as_slice())?;
     Ok(with_types(name, class_of(f.qualifier), types, limit))
+}
+
+/// The signatures of subprograms in order, over the names outside bodies: the fault of the first that has one.
+pub(crate) fn find_signatures<'a>(
+    alloc: Global,
+    names: &mut Scope<'a>,
+    funcs: &[&'a Func],
+) -> Result<Subprograms, Refused>
+    ensures rule { (t : Tests) → Suits t → Agrees result (rules.signatures_after t [] (map (λ f. f.now) funcs.now) names.old) }
+    ensures names { IfOk result (λ _. names.new ≡ names.old) }
+    ensures many { IfOk result (λ subs. length subs ≡ length funcs.now) }
+{
+    let none = Subprograms::new(alloc);
+    let mut subs = Subprograms::new(alloc);
+    for f in funcs {
+        let signature = find_signature(alloc, names, &none, f)?;
+        subs.push(signature)?;
+    }
+    Ok(subs)
 }

@@ -1,9 +1,7 @@
 -- The names of a program that is well formed are those that its declarations alone describe.
 pub mod FirstFilled
 pub mod Forms
-pub mod Bare
 pub mod WrittenTypes
 pub mod DeclaredTypes
 pub mod DeclaredStorage
 pub mod Environments
-pub mod Finished

@@ -1,7 +1,5 @@
 -- What the rules evaluate before any run is never stuck; which codes faults have, and where one of the code T04 comes from.
 pub mod NoCalls
-pub mod QuietCalls
-pub mod InitialCalls
 pub mod NeverStuck
 pub mod FaultCauses
 pub mod FaultCodes

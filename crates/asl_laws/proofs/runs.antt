@@ -1,5 +1,4 @@
--- Law 1: runs by the shape of plans alone, their steps, budgets and texts, and what they leave as it is. Runs over two environments in which what is
--- used is the same.
+-- Law 1: runs by the shape of plans alone, their steps, budgets and texts, and what they leave as it is.
 pub mod Budget
 pub mod Given
 pub mod Quiet
@@ -11,12 +10,3 @@ pub mod Several
 pub mod PlansKeep
 pub mod GlobalsKept
 pub mod WordRuns
-pub mod Fewer
-pub mod PlansAlike
-pub mod StatementsAlike
-pub mod CoresAlike
-pub mod CallsAlike
-pub mod StoresAlike
-pub mod NodesAlike
-pub mod SameBefore
-pub mod GlobalsStay

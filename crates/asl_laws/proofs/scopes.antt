@@ -7,7 +7,6 @@ pub mod WellTyped
 pub mod OverScope
 pub mod ScopesOver
 pub mod BodiesOver
-pub mod NamesClean
 pub mod MoreNames
 pub mod DeclWell
 pub mod NamesOutside

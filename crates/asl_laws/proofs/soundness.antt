@@ -9,9 +9,5 @@ pub mod SoundnessHeads
 pub mod SoundnessCalls
 pub mod Soundness
 pub mod SoundnessBefore
-pub mod SoundTurns
-pub mod TurnEvaluates
-pub mod TurnKeeps
-pub mod ProgramSound
 pub mod SoundnessEntry
 pub mod AgreeingTypes

@@ -13,9 +13,4 @@ pub mod DeclSpans
 pub mod ProgramSpans
 pub mod ValueEnds
 pub mod KnownSpans
-pub mod PartSpans
-pub mod PlanSpans
-pub mod SizedSpans
-pub mod RunSpans
-pub mod AskedSpans
 pub mod FileSpans

@@ -6,5 +6,6 @@ pub mod Sliced
 pub mod Signed
 pub mod Routines
 pub mod FirstFilled
+pub mod FirstPresent
 pub mod Widening
 pub mod Replacing

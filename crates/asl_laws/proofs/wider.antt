@@ -8,7 +8,6 @@ pub mod Stays
 pub mod Rows
 pub mod Trees
 pub mod Stmts
-pub mod Overloads
 pub mod Verdict
 pub mod Reading
 pub mod Reports

@@ -17,8 +17,7 @@ use Rattle.asl_rules.specs.statements.Acting.{Done}
 use Rattle.asl_rules.specs.statements.Branches.{index_type, with_index, with_caught}
 use Rattle.asl_rules.specs.statements.Stmts.{found_stmt}
 use Rattle.asl_rules.specs.declarations.Turns.{names_of_program}
-use Rattle.asl_rules.specs.declarations.Signatures.{Head, signatures, signatures_rule}
-use Rattle.asl_rules.specs.declarations.Environments.{funcs_of}
+use Rattle.asl_rules.specs.declarations.Programs.{Head, funcs_of, signatures, signatures_rule}
 use Rattle.asl_rules.specs.private.WellFormed.{WellFormed, WellDeclared, ShapedParts}
 use Rattle.asl_rules.specs.private.Agreement.{types_in}
 use Rattle.asl_rules.specs.private.Worth.{IsHeld}

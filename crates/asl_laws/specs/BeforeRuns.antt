@@ -9,8 +9,7 @@ use Rattle.asl_rules.specs.Tests.{Tests}
 use Rattle.asl_rules.specs.declarations.Scopes.{standing_of}
 use Rattle.asl_rules.specs.runs.States.{Core, resting}
 use Rattle.asl_rules.specs.runs.Plans.{Meter, End, Faulted, Stuck, CallBarred, Outcome, Done, Halt, Pure, Good, Bad}
-use Rattle.asl_rules.specs.declarations.Environments.{Environment}
-use Rattle.asl_rules.specs.declarations.Programs.{environment}
+use Rattle.asl_rules.specs.declarations.Programs.{Environment, environment}
 use Rattle.asl_rules.specs.declarations.Constants.{constant, initial_value}
 use Rattle.asl_rules.specs.runs.Evaluation.{meaning, value_here, initial_globals}
 

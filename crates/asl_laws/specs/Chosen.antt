@@ -12,6 +12,7 @@ use Rattle.asl_rules.specs.types.Types.{BitField}
 use Rattle.asl_rules.specs.types.Shaped.{exprs_in, shapes_in, given_parts}
 use Rattle.asl_rules.specs.types.Numbers.{outside}
 use Rattle.asl_rules.specs.declarations.Routines.{routine_named}
+use Rattle.asl_rules.specs.declarations.Programs.{Environment, funcs_of}
 use Rattle.asl_rules.specs.runs.Trees as tree
 use Rattle.asl_rules.specs.runs.Trees.{Note, Tree, Trees, Callee, own, of_library, Shell, FieldGiven, Act, TreeStep, into_field, into_bitfield, into_bitfields, into_slices, into_element, TreePlace}
 use Rattle.asl_rules.specs.values.Values.{Value, FieldValues, int, bool, bits_with, label, record_with, exception_with, tuple_with, array_with, no_value_of, value_of_field}
@@ -31,7 +32,6 @@ use Rattle.asl_syn.specs.declared.tree.Target.{Target, fold-Target}
 use Rattle.asl_syn.specs.declared.tree.Target.TheOpen as tg
 use Rattle.asl_rules.specs.types.Shapes.{SliceShape}
 use Rattle.asl_rules.specs.private.Erasure.{erased}
-use Rattle.asl_rules.specs.declarations.Environments.{Environment, funcs_of}
 
 -- ---- when it is found
 

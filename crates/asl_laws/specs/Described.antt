@@ -17,17 +17,14 @@ use Rattle.asl_rules.specs.types.Closed.{Closed, ClosedFields, closed, floor}
 use Rattle.asl_rules.specs.values.Values.{Value, int, label}
 use Rattle.asl_rules.specs.types.Views.{viewed}
 use Rattle.asl_rules.specs.declarations.Scopes.{Storage, standing_of, storage_of}
-use Rattle.asl_rules.specs.declarations.Declarations.{labels}
-use Rattle.asl_rules.specs.declarations.Environments.{is_var}
+use Rattle.asl_rules.specs.declarations.Declarations.{labels, is_var}
 use Rattle.asl_rules.specs.runs.Plans.{Pure, Good}
 use Rattle.asl_rules.specs.runs.Pures.{◌>>=◌, found_type}
 use Rattle.asl_rules.specs.types.Numbers.{Numbers, integer_of_value, wholes, all_fractions}
 use Rattle.asl_rules.specs.types.Shaped.{sizes_in}
 use Rattle.asl_rules.specs.types.Written.{Sized, type_span}
 use Rattle.asl_rules.specs.declarations.Constants.{constant}
-use Rattle.asl_rules.specs.declarations.InitialValues.{holds_call, run_before}
-use Rattle.asl_laws.specs.Evaluated.{of_run}
-use Rattle.asl_rules.specs.declarations.Environments.{Environment}
+use Rattle.asl_rules.specs.declarations.Programs.{Environment}
 use Rattle.asl_rules.specs.runs.Evaluation.{types_of, type_at, sized_at, label_in}
 
 -- the integers of the names that can't be assigned
@@ -109,44 +106,37 @@ whole_values (r ∷ rs) = option_and_then (λ x. option_map (λ xs. x ∷ xs) (w
 abbrev pub sized_known : Environment → TypeExpr → Option Sized
 sized_known env t = option_and_then (sized_at env t) (option_and_then whole_values (all_fractions (wholes (known_numbers env)) (sizes_in t)))
 
--- what its initialiser comes to: without a call as a constant, with one as a run of its own, over the declarations that were judged before any run
-abbrev pub initial : Environment → Environment → Expr → Option (Pure Value)
-initial env before e = if holds_call e then of_run (run_before before e) else Some (constant env.limit e env.names)
-
-abbrev pub fitting : Environment → TypeExpr → Pure Value → Pure Value
-fitting env t p = found_type (type_span t) (written_type env t) >>= λ T. p >>= λ x. Good (viewed T x)
-
 -- storage begins with its initialiser, or with the first value of its type
-abbrev pub begins_with : Environment → Environment → Option TypeExpr → Option Expr → Option (Pure Value)
-begins_with env before None None = None
-begins_with env before (Some t) None = Some (found_type (type_span t) (sized_known env t) >>= λ s. s.first)
-begins_with env before None (Some e) = initial env before e
-begins_with env before (Some t) (Some e) = option_map (fitting env t) (initial env before e)
+abbrev pub begins_with : Environment → Option TypeExpr → Option Expr → Option (Pure Value)
+begins_with env None None = None
+begins_with env (Some t) None = Some (found_type (type_span t) (sized_known env t) >>= λ s. s.first)
+begins_with env None (Some e) = Some (constant env.limit e env.names)
+begins_with env (Some t) (Some e) = Some (found_type (type_span t) (written_type env t) >>= λ T. constant env.limit e env.names >>= λ x. Good (viewed T x))
 
 abbrev pub HasWritten : Environment → Option TypeExpr → Storage → Type 0
 HasWritten env None s = Unit {0}
 HasWritten env (Some t) s = written_type env t ≡ Some (closed s.ty)
 
-pub record StorageDescribed (env before : Environment) (d : StorageDecl) : Type 0 where
+pub record StorageDescribed (env : Environment) (d : StorageDecl) : Type 0 where
   pub storage : Storage
   pub stands : storage_of d.name.text env.names ≡ Some storage
   pub mutable : storage.is_mutable ≡ is_var d.kind
   pub value : Value
-  pub is : begins_with env before d.ty d.init ≡ Some (Good value)
+  pub is : begins_with env d.ty d.init ≡ Some (Good value)
   pub begins : storage.initial ≡ Some value
   pub has : HasWritten env d.ty storage
 
 -- ---- all declarations
 
-abbrev pub Described : Environment → Environment → Decl → Type 0
-Described env before (dc.Type d) = TypeDescribed env d
-Described env before (dc.Storage d) = StorageDescribed env before d
-Described env before (dc.Func f) = Unit {0}
+abbrev pub Described : Environment → Decl → Type 0
+Described env (dc.Type d) = TypeDescribed env d
+Described env (dc.Storage d) = StorageDescribed env d
+Described env (dc.Func f) = Unit {0}
 
-abbrev pub AllDescribed : Environment → Environment → List Decl → Type 0
-AllDescribed env before [] = Unit {0}
-AllDescribed env before (d ∷ ds) = Described env before d × AllDescribed env before ds
+abbrev pub AllDescribed : Environment → List Decl → Type 0
+AllDescribed env [] = Unit {0}
+AllDescribed env (d ∷ ds) = Described env d × AllDescribed env ds
 
--- the names of an environment are those of its declarations, where initialisers that call are evaluated over the second one
-abbrev pub Describes : Environment → Environment → Type 0
-Describes env before = AllDescribed env before env.decls
+-- the names of an environment are those of its declarations
+abbrev pub Describes : Environment → Type 0
+Describes env = AllDescribed env env.decls

@@ -22,4 +22,5 @@ pub mod Described
 pub mod OneRun
 pub mod Soundness
 pub mod Spans
+pub mod StmtUses
 pub mod certificates

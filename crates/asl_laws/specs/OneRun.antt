@@ -1,6 +1,6 @@
 -- Evaluation and execution as relations, and what it says that each node has exactly one outcome.
 use Rattle.std.specs.Prelude.{◌≡◌, ℕ, List, Option}
-use Rattle.asl_rules.specs.declarations.Environments.{Environment}
+use Rattle.asl_rules.specs.declarations.Programs.{Environment}
 use Rattle.asl_syn.specs.declared.tree.Expr.{Expr}
 use Rattle.asl_syn.specs.declared.tree.Stmt.{Stmt}
 use Rattle.asl_rules.specs.values.Values.{Value, Exit}
@@ -9,8 +9,7 @@ use Rattle.asl_rules.specs.runs.Plans.{Meter, Outcome, final}
 use Rattle.asl_rules.specs.runs.Visits.{Falls, NoMoreOpen}
 use Rattle.asl_rules.specs.runs.Evaluation.{meaning}
 use Rattle.asl_laws.specs.BeforeRuns.{OneEvaluation}
-use Rattle.asl_rules.specs.runs.Limits.{most_open}
-use Rattle.asl_rules.specs.runs.Machines.{run_of, visits_of}
+use Rattle.asl_rules.specs.runs.Machines.{most_open, run_of, visits_of}
 
 -- an expression of a program, in a state with a meter, where d nodes more may be open, has this outcome: what it gives,
 -- the state after it, and the steps and the text after it

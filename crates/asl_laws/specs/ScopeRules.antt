@@ -13,7 +13,7 @@ use Rattle.asl_rules.specs.declarations.Scopes.{Entry, Standing, Stored, Subprog
 use Rattle.asl_rules.specs.expressions.Typing.{Typed}
 use Rattle.asl_rules.specs.types.Writing.{Written}
 use Rattle.asl_rules.specs.expressions.Exprs.{typed, written}
-use Rattle.asl_rules.specs.declarations.Signatures.{Head, body_scope}
+use Rattle.asl_rules.specs.declarations.Programs.{Head, body_scope}
 use Rattle.asl_rules.specs.private.Worth.{AtomsOf}
 
 -- ---- no name is shadowed

@@ -10,8 +10,7 @@ use Rattle.asl_rules.specs.declared.entry.Entry.{Entry}
 use Rattle.asl_rules.specs.declared.entry.Entry.TheVariants as entry
 use Rattle.asl_rules.specs.Tests.{Tests}
 use Rattle.asl_rules.specs.runs.Plans.{End, Faulted, Stuck, Outcome, Done, Thrown, Halt, starting}
-use Rattle.asl_rules.specs.declarations.Environments.{Environment}
-use Rattle.asl_rules.specs.declarations.Programs.{environment, Entries, Accepted, final_decls, read_verdict}
+use Rattle.asl_rules.specs.declarations.Programs.{Environment, environment, Entries, Accepted, final_decls, read_verdict}
 use Rattle.asl_rules.specs.runs.Machines.{run_of}
 use Rattle.asl_rules.specs.runs.Words.{WordsEnd, AllReturned, WordThrew, WordHalted, run_words, wanted}
 use Rattle.asl_rules.specs.report.WordList.{ListFault, Word, words_read}

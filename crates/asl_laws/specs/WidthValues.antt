@@ -11,13 +11,12 @@ use Rattle.asl_rules.specs.types.Numbers.{fraction, wholes, IsWhole, present}
 use Rattle.asl_rules.specs.declarations.Scopes.{Scope}
 use Rattle.asl_rules.specs.expressions.Typing.{Width, Number}
 use Rattle.asl_rules.specs.expressions.Exprs.{found, width}
-use Rattle.asl_rules.specs.declarations.Programs.{Accepted}
+use Rattle.asl_rules.specs.declarations.Programs.{Accepted, Environment}
 use Rattle.asl_rules.specs.values.Values.{Value, int}
 use Rattle.asl_rules.specs.runs.States.{Core}
 use Rattle.asl_rules.specs.private.Agreement.{Agrees}
 use Rattle.asl_rules.specs.runs.Plans.{Meter, Outcome, Done, Thrown, Halt, Faulted, Stuck}
 use Rattle.asl_rules.specs.runs.Evaluation.{meaning}
-use Rattle.asl_rules.specs.declarations.Environments.{Environment}
 
 -- the faults of a width: an integer is out of range, or a division isn't exact; or, as at the entry into any node, too many nodes are open or no step is
 -- left
@@ -37,10 +36,10 @@ HasNumber e c z = (r : Fraction) × (fraction e (wholes (present c)) ≡ Some r)
 
 -- in a state that agrees with its scope a width gives the integer that its polynomial is there, and an end of a constraint that names no
 -- atom its own; each is what the expression is over fractions
-pub record WidthValues (t : Tests) (env : Environment) (a : Accepted) (outer : Assignment) : Type 0 where
+pub record WidthValues (t : Tests) (env : Environment) (a : Accepted) : Type 0 where
   pub widths : (d : ℕ) (e : Expr) (G : Scope) (W : Width) (p : Assignment) (c : Core) (h : Meter) →
-      width t e G ≡ Ok W → Agrees a.names outer G.names p c →
+      width t e G ≡ Ok W → Agrees a.names G.names p c →
       GivesInteger c (λ z. HasWidth W.poly p z × HasNumber e c z) ((meaning env d).expr e c h)
   pub numbers : (d : ℕ) (e : Expr) (G : Scope) (N : Number) (p : Assignment) (c : Core) (h : Meter) →
-      (found t e).number G ≡ Ok N → Agrees a.names outer G.names p c →
+      (found t e).number G ≡ Ok N → Agrees a.names G.names p c →
       GivesInteger c (λ z. (z ≡ N.number) × HasNumber e c z) ((meaning env d).expr e c h)

@@ -5,8 +5,7 @@ ghost use Rattle.std.specs.Prelude.{◌≡◌, ℕ, true, List, length, Ok, Err}
 ghost use Rattle.asl_rules.specs.expressions.Exprs.{typed};
 ghost use Rattle.asl_rules.specs.declarations.Scopes.{Scope, Body, Signature};
 ghost use Rattle.asl_rules.specs.declared.entry.Entry.TheVariants as entry;
-ghost use Rattle.asl_rules.specs.declarations.Signatures.{Head};
-ghost use Rattle.asl_rules.specs.declarations.Programs.{verdict};
+ghost use Rattle.asl_rules.specs.declarations.Programs.{Head, verdict};
 ghost use Rattle.asl_syn.specs.declared.code.Fault.{Fault};
 ghost use Rattle.asl_rules.specs.Tests.{Tests, IsRight};
 ghost use Rattle.asl_rules.specs.report.Texts.{Text};

@@ -8,7 +8,7 @@ ghost use Rattle.asl_grammar.specs.lexemes.Refusals.{max_width};
 ghost use Rattle.asl_grammar.specs.lexemes.Texts.{LiesIn};
 ghost use Rattle.asl_grammar.specs.lexemes.Tokens.{Tokens};
 ghost use Rattle.asl_poly.specs.WidthLimits.{heaviest};
-ghost use Rattle.asl_rules.specs.private.Agreement.{no_atoms, types_in};
+ghost use Rattle.asl_rules.specs.private.Agreement.{types_in};
 ghost use Rattle.asl_laws.specs.AgreeingTypes.{DeclarationsAgree, ScopeFormed, TypesFormed, KeepsFormed};
 ghost use Rattle.asl_laws.specs.Answers.{AreJudged, FaultOfFiles, FilesOk, OneAnswer};
 ghost use Rattle.asl_laws.specs.BeforeRuns.{BeginsSo};
@@ -19,9 +19,7 @@ ghost use Rattle.asl_laws.specs.OneRun.{OneRun};
 ghost use Rattle.asl_rules.specs.runs.Plans.{Meter};
 ghost use Rattle.asl_rules.specs.declarations.Turns.{SoFar, turns, all_waiting, final, faults_rule, names_of_program};
 ghost use Rattle.asl_rules.specs.declarations.Uses.{cycles_rule};
-ghost use Rattle.asl_rules.specs.declarations.Signatures.{Head, signatures, signatures_rule, signature_rule};
-ghost use Rattle.asl_rules.specs.declarations.Environments.{funcs_of, Environment};
-ghost use Rattle.asl_rules.specs.declarations.Programs.{Entries, Accepted, ProgramOk, ReadOk, ReadFault, default_decls, environment, final_decls, read_verdict, verdict};
+ghost use Rattle.asl_rules.specs.declarations.Programs.{Head, funcs_of, signatures, signatures_rule, Environment, Entries, Accepted, ProgramOk, ReadOk, ReadFault, default_decls, environment, final_decls, read_verdict, signature_rule, verdict};
 ghost use Rattle.asl_rules.specs.declarations.Scopes.{Entry as Names, Scope, Body, is_free, type_of_name};
 ghost use Rattle.asl_rules.specs.statements.Acting.{Done};
 ghost use Rattle.asl_rules.specs.statements.Branches.{index_type, with_index, with_caught};
@@ -48,12 +46,12 @@ ghost use Rattle.asl_syn.specs.declared.code.StaticCode.TheVariants.{T04};
 ghost use Rattle.asl_syn.specs.declared.tree.Decl.{Decl};
 ghost use Rattle.asl_syn.specs.declared.read.ReadDecl.{ReadDecl};
 ghost use Rattle.asl_laws.specs.Budgets.{with_more, SameWithMore, SameWordsWithMore};
-ghost use Rattle.asl_laws.specs.Evaluated.{Evaluates, HasCause, environment_after, names_after};
+ghost use Rattle.asl_laws.specs.Evaluated.{Evaluates, HasCause, names_after};
 ghost use Rattle.asl_laws.specs.MadeNames.{MadeApart, NoneMade};
 ghost use Rattle.asl_laws.specs.Plain.{as_read};
 ghost use Rattle.asl_laws.specs.Placeless.{StandSame, JudgesSame};
 ghost use Rattle.asl_laws.specs.Reported.{RunsWell};
-ghost use Rattle.asl_laws.specs.Settled.{ForGood, StaysJudged, JudgedSo, Settled, AllWell};
+ghost use Rattle.asl_laws.specs.Settled.{StaysJudged, Settled, AllWell};
 ghost use Rattle.asl_laws.specs.Codes.{HasRuleCode, HasReadingCode};
 ghost use Rattle.asl_laws.specs.Visited.{AllSame};
 ghost use Rattle.asl_laws.specs.Wider.{Fits, FitsLimit, WordsFitLimit};
@@ -80,14 +78,11 @@ pub fn law1()
 /// One answer. Under each width limit up to 2^62, which is the greatest weight of a width, there are right tests (`tests`). Files, each entry
 /// and each such limit have exactly one of these, a program that is well formed or one single fault (`one`), and where there is a file at all,
 /// the fault's span lies within one of the files (`within`). What the rules evaluate before any run, of declarations whose names are apart, is
-/// never stuck: it gives a value of its type, or has a dynamic fault (`evaluates`). The limit of a subprogram, and an initialiser without a call,
-/// are evaluated as constants; an initialiser with a call is a run of its own, over the subprograms that are well formed by its turn, and throws
-/// nothing. So a fault of the code T04 that is met after reading, of the
+/// never stuck: it gives a value of its type, or has a dynamic fault (`evaluates`). So a fault of the code T04 that is met after reading, of the
 /// program with the bodies that may be replaced or of that with those that replace them, is the
 /// dynamic fault with which the evaluation of an initialiser or of the limit of a subprogram ends, with its code and at its place in that
-/// expression or, where an initialiser holds a call, in a subprogram; or it is that of a type without a first value, at the type of storage that
-/// has no initialiser; or it stands at a global `var` in an initialiser, at the first call in one that isn't pure, or at a call or a
-/// global `var` in a limit (`cause`). A fault that is met as files are read has one of the codes L01 to L05, M03, and S01 to
+/// expression; or it is that of a type without a first value, at the type of storage that has no initialiser; or it stands at a call or a
+/// global `var` in an initialiser or a limit (`cause`). A fault that is met as files are read has one of the codes L01 to L05, M03, and S01 to
 /// S03 (`reading_codes`); one that is met after reading has one of the codes T01 to T27, and a dynamic code only beside T04 (`codes`). A
 /// command has one report: it is the same by all right tests of one width limit, and by whatever reads files as the grammar says (`report`).
 #[tactic(auto)]
@@ -192,34 +187,27 @@ pub fn scopes_law()
     ensures places { (t : Tests) (G : Scope) (names : List Names) → StandSame G.names names → JudgesSame t G names }
 {}
 
-/// The order of declarations decides nothing. Those of types and of storage are judged in turns, one at a time, and the subprograms that these
-/// reach, and what was judged at a turn, well formed or faulty, is so at each later one; there it is judged so again, where it isn't storage
-/// whose initialiser is evaluated by a run (`still`). After as many turns as there are declarations none is left (`ends`). Where no declaration
-/// reaches itself, none is faulty, and no subprogram clashes, each that is judged before all other bodies is well formed (`well`). The other claims
-/// ask that what runs give they give for good. So it is in declarations that are read from files and whose names are apart, and in any declarations
-/// of which no initialiser holds a call. There what was judged at a turn is judged so at each later one, such storage included (`again`). What came
-/// of all agrees with itself: each that is judged before all other bodies, and uses only what is usable, is what its rule says of it, and each
-/// other one waits (`settled`). Where no declaration reaches itself nothing else agrees with itself so, in whichever order it was found (`only`).
+/// The order of declarations decides nothing. Those of types and of storage are judged in turns, one at a time, and what was judged at a turn,
+/// well formed or faulty, is so at each later one, where it is judged so by the names that are visible then (`still`). After as many turns as
+/// there are declarations none is left (`ends`). Then each that takes a turn, and uses well-formed ones alone, is what its rule says of it where
+/// the names of the program are visible, and each other one waits (`settled`). If no declaration reaches itself, no other outcomes have this
+/// property, in whichever order they are found (`only`), and if besides none is faulty, each that takes a turn is well formed (`well`).
 #[tactic(auto)]
 pub fn turns_law()
-    ensures still { (t : Tests) (ds : List Decl) (n m : ℕ) → n ≤ m → StaysJudged t ds (turns t m ds (all_waiting ds)) ds (turns t n ds (all_waiting ds)) (turns t m ds (all_waiting ds)) }
-    ensures again { (t : Tests) (ds : List Decl) → ForGood t ds → (n m : ℕ) → n ≤ m → JudgedSo t ds (turns t m ds (all_waiting ds)) (turns t n ds (all_waiting ds)) }
+    ensures still { (t : Tests) (ds : List Decl) (n m : ℕ) → n ≤ m → StaysJudged t (names_after t m ds) ds (turns t n ds (all_waiting ds)) (turns t m ds (all_waiting ds)) }
     ensures ends { (t : Tests) (ds : List Decl) (n : ℕ) → length ds ≤ n → turns t n ds (all_waiting ds) ≡ final t ds }
-    ensures settled { (t : Tests) (ds : List Decl) → ForGood t ds → Settled t ds (final t ds) }
-    ensures only { (t : Tests) (ds : List Decl) (js : SoFar) → ForGood t ds → Settled t ds js → cycles_rule ds ds ≡ Ok tt → js ≡ final t ds }
-    ensures well { (t : Tests) (ds : List Decl) → cycles_rule ds ds ≡ Ok tt → faults_rule t ds (final t ds) [] ds (final t ds) ≡ Ok tt → AllWell ds (final t ds) }
+    ensures settled { (t : Tests) (ds : List Decl) → Settled t ds (final t ds) }
+    ensures only { (t : Tests) (ds : List Decl) (js : SoFar) → Settled t ds js → cycles_rule ds ds ≡ Ok tt → js ≡ final t ds }
+    ensures well { (t : Tests) (ds : List Decl) → cycles_rule ds ds ≡ Ok tt → faults_rule (final t ds) ≡ Ok tt → AllWell ds (final t ds) }
 {}
 
 /// For all files that are read to declarations which are well formed, the names of the environment are what the declarations alone
 /// describe (`described`): each declared type stands for the closed type that evaluating the written one gives, each label for its
-/// value, and storage has its written type and begins with the value of its initialiser, or with the first value of its type. An
-/// initialiser without a call has the value that it has as a constant; one with a call has that of a run of its own, over the declarations
-/// that are judged before all other bodies. Over the finished program, with the bodies of all its subprograms, it has the same (`finished`): so
-/// what is known before any run is what the program itself would find.
+/// value, and storage has its written type and begins with the value of its initialiser as a constant, or with the first value of
+/// its type.
 #[tactic(auto)]
 pub fn environment_law()
-    ensures described { (limit : ℕ) (e : Entry) (files : List File) (ds : List Decl) (a : Accepted) → AreJudged limit files ds → (p : ProgramOk limit e ds a) → Describes (environment p.tests ds) (environment_after p.tests (length ds) ds) }
-    ensures finished { (limit : ℕ) (e : Entry) (files : List File) (ds : List Decl) (a : Accepted) → AreJudged limit files ds → (p : ProgramOk limit e ds a) → Describes (environment p.tests ds) (environment p.tests ds) }
+    ensures described { (limit : ℕ) (e : Entry) (files : List File) (ds : List Decl) (a : Accepted) → AreJudged limit files ds → (p : ProgramOk limit e ds a) → Describes (environment p.tests ds) }
 {}
 
 /// No report is put together from a stuck run (`never_stuck`). Where files are read to declarations that are accepted with the entry
@@ -238,7 +226,7 @@ pub fn run_law()
 /// that is assigned; and the values that a construction gives to its fields (`same`).
 #[tactic(auto)]
 pub fn visit_law()
-    ensures same { (limit : ℕ) (e : Entry) (files : List File) (ds : List Decl) (a : Accepted) → AreJudged limit files ds → (p : ProgramOk limit e ds a) → (id : ℕ) (args : List Value) (globals : List Binding) (h : Meter) → IsCall a no_atoms id args globals → AllSame p.tests ds a (visits_of (environment p.tests ds) id args globals h) }
+    ensures same { (limit : ℕ) (e : Entry) (files : List File) (ds : List Decl) (a : Accepted) → AreJudged limit files ds → (p : ProgramOk limit e ds a) → (id : ℕ) (args : List Value) (globals : List Binding) (h : Meter) → IsCall a id args globals → AllSame p.tests ds a (visits_of (environment p.tests ds) id args globals h) }
 {}
 
 /// The number of steps decides nothing but whether a run ends for want of steps. With k steps more a call from outside has the same

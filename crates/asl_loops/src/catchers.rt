@@ -9,7 +9,6 @@ ghost use Rattle.asl_rules.specs.Tests.{Tests};
 ghost use Rattle.asl_rules.specs.runs.Trees as trees;
 ghost use Rattle.asl_tree.specs.Acts.{all_acts};
 ghost use Rattle.asl_types.specs.private.Answers.{Met, Agrees};
-ghost use Rattle.asl_types.specs.private.Fronts.{IsFront};
 ghost use Rattle.asl_types.specs.Suits.{Suits};
 ghost use Rattle.asl_blocks.specs.private.Blocks.{Blocks};
 ghost use Rattle.asl_blocks.specs.private.Sizes.{stmt_size, stmts_size, catcher_size, catchers_size, otherwise_size};
@@ -85,14 +84,12 @@ pub(crate) fn type_caught(names: &Scope, ty: &Ident) -> Result<Ty, Refused>
 }
 
 /// The name of a catcher becomes visible, where it has one: T01 where it is visible already.
-#[tactic(auto, using(asl_types::proofs::FrontLemmas::front_first))]
 pub(crate) fn declare_caught<'a>(
     names: &mut Scope<'a>,
     name: &'a Option<Ident>,
     ty: Ty,
 ) -> Result<(), Refused>
-    ensures rule { (inside : scopes.Body) → Met (λ _. scopes.body_names inside names.new) result (rules.with_caught name.now ty (scopes.body_names inside names.old)) }
-    ensures front { IsFront names.old names.new }
+    ensures { (inside : scopes.Body) → Met (λ _. scopes.body_names inside names.new) result (rules.with_caught name.now ty (scopes.body_names inside names.old)) }
 {
     match name {
         None => Ok(()),
@@ -134,27 +131,8 @@ fn catcher_parts(c: &Written) -> (&Option<Ident>, &Ident, &[Stmt])
     }
 }
 
-/// The list of a catcher of this type, which sees its name, and in which the exception is being handled. The name stays.
-fn check_named<'a, L: Fn(&mut Scope<'a>, &Body, &'a [Stmt]) -> Result<Listed, Refused>>(
-    here: &Within<'a, L>,
-    names: &mut Scope<'a>,
-    body: &Body,
-    name: &'a Option<Ident>,
-    ty: Ty,
-    stmts: &'a [Stmt],
-) -> Result<Listed, Refused>
-    requires blocks { Blocks (stmt_size here.now.stmt.now) (L.pre here.now.list) (L.post here.now.list) }
-    requires inside { stmts_size stmts.now < stmt_size here.now.stmt.now }
-    ensures rule { (t : Tests) → Suits t → Met (listed_of names.old) result (walks.caught_shut name.now ty (map (walk_stmt t) stmts.now) (body_of names.old body.now)) }
-    ensures front { IsFront names.old names.new }
-{
-    declare_caught(names, name, ty)?;
-    let inner = while_handling(body)?;
-    check_inside(here, names, &inner, stmts)
-}
-
-/// The same list, behind which the name is visible no more.
-#[tactic(auto, using(asl_types::proofs::FrontLemmas::front_taken))]
+/// The list of a catcher of this type, which sees its name, and in which the exception is being handled. The name is visible no
+/// more behind it.
 fn check_caught<'a, L: Fn(&mut Scope<'a>, &Body, &'a [Stmt]) -> Result<Listed, Refused>>(
     here: &Within<'a, L>,
     names: &mut Scope<'a>,
@@ -166,12 +144,14 @@ fn check_caught<'a, L: Fn(&mut Scope<'a>, &Body, &'a [Stmt]) -> Result<Listed, R
     requires blocks { Blocks (stmt_size here.now.stmt.now) (L.pre here.now.list) (L.post here.now.list) }
     requires inside { stmts_size stmts.now < stmt_size here.now.stmt.now }
     ensures rule { (t : Tests) → Suits t → Met (listed_of names.old) result (walks.caught_shut name.now ty (map (walk_stmt t) stmts.now) (body_of names.old body.now)) }
-    ensures kept { names.new ≡ names.old }
+    ensures kept { OnOk result (names.new ≡ names.old) }
 {
     let height = names.len();
-    let list = check_named(here, names, body, name, ty, stmts);
+    declare_caught(names, name, ty)?;
+    let inner = while_handling(body)?;
+    let list = check_inside(here, names, &inner, stmts)?;
     names.truncate(height);
-    list
+    Ok(list)
 }
 
 /// One catcher: its type, its name and its list, in which the exception is being handled.
@@ -185,7 +165,7 @@ fn check_catcher<'a, L: Fn(&mut Scope<'a>, &Body, &'a [Stmt]) -> Result<Listed, 
     requires blocks { Blocks (stmt_size here.now.stmt.now) (L.pre here.now.list) (L.post here.now.list) }
     requires inside { catcher_size c.now < stmt_size here.now.stmt.now }
     ensures rule { (t : Tests) → Suits t → Met (λ _. catchers_of so_far.new) result (catcher_step (body_of names.old body.now) (walk_catcher t c.now) (catchers_of so_far.old)) }
-    ensures kept { names.new ≡ names.old }
+    ensures kept { OnOk result (names.new ≡ names.old) }
 {
     let (name, ty, stmts) = catcher_parts(c);
     let caught = type_caught(names, ty)?;
@@ -204,7 +184,7 @@ fn check_catchers<'a, L: Fn(&mut Scope<'a>, &Body, &'a [Stmt]) -> Result<Listed,
     requires blocks { Blocks (stmt_size here.now.stmt.now) (L.pre here.now.list) (L.post here.now.list) }
     requires inside { catchers_size catchers.now < stmt_size here.now.stmt.now }
     ensures rule { (t : Tests) → Suits t → Met catchers_of result (after (catcher_step (body_of names.old body.now)) (map (walk_catcher t) catchers.now) nothing_gathered) }
-    ensures kept { names.new ≡ names.old }
+    ensures kept { OnOk result (names.new ≡ names.old) }
 {
     let mut so_far = Catchers::new(body.alloc);
     for c in catchers {
@@ -231,8 +211,7 @@ pub fn check_try<'a, L: Fn(&mut Scope<'a>, &Body, &'a [Stmt]) -> Result<Listed, 
 ) -> Result<Done, Refused>
     requires blocks { Blocks (stmt_size here.now.stmt.now) (L.pre here.now.list) (L.post here.now.list) }
     requires inside { stmts_size trying.now.stmts.now + (catchers_size trying.now.catchers.now + otherwise_size trying.now.last.now) < stmt_size here.now.stmt.now }
-    ensures rule { (t : Tests) → Suits t → Met (done_of names.new) result (walks.try_walk trying.now.span (map (walk_stmt t) trying.now.stmts.now) (map (walk_catcher t) trying.now.catchers.now) (walk_otherwise t trying.now.last.now) (body_of names.old body.now)) }
-    ensures kept { names.new ≡ names.old }
+    ensures { (t : Tests) → Suits t → Met (done_of names.new) result (walks.try_walk trying.now.span (map (walk_stmt t) trying.now.stmts.now) (map (walk_catcher t) trying.now.catchers.now) (walk_otherwise t trying.now.last.now) (body_of names.old body.now)) }
 {
     let list = check_inside(here, names, body, trying.stmts)?;
     let catchers = check_catchers(here, names, body, trying.catchers)?;

@@ -1,11 +1,10 @@
 //! Loops.
 
-ghost use Rattle.std.specs.Prelude.{◌≡◌, ◌<◌, List, map, Ok, IfOk};
+ghost use Rattle.std.specs.Prelude.{◌≡◌, ◌<◌, List, map, Ok, IfOk, OnOk};
 ghost use Rattle.asl_rules.specs.statements.Branches as rules;
 ghost use Rattle.asl_rules.specs.declarations.Scopes.{Entry};
 ghost use Rattle.asl_rules.specs.Tests.{Tests};
 ghost use Rattle.asl_types.specs.private.Answers.{Met};
-ghost use Rattle.asl_types.specs.private.Fronts.{IsFront};
 ghost use Rattle.asl_types.specs.Suits.{Suits};
 ghost use Rattle.asl_subprograms.specs.private.ContextView.{scope_of};
 ghost use Rattle.asl_tree.specs.View.{operand_of, tree_of, typed_of};
@@ -86,15 +85,13 @@ fn index_type(names: &Scope, body: &Body, counting: &Counting) -> Result<Ty, All
 }
 
 /// The index of a loop becomes visible: T05 at a bound that is no integer, then T01 where the index is visible already.
-#[tactic(auto, using(asl_types::proofs::FrontLemmas::front_first))]
 pub(crate) fn declare_index<'a>(
     names: &mut Scope<'a>,
     body: &Body,
     counting: &Counting<'a>,
     bounds: &Bounds,
 ) -> Result<(), Refused>
-    ensures rule { (t : Tests) → Suits t → Met (λ _. body_of names.new body.now) result (index_declared t counting.now.index.now counting.now.direction counting.now.from.now counting.now.to.now (bounds_of bounds.now) (body_of names.old body.now)) }
-    ensures front { IsFront names.old names.new }
+    ensures { (t : Tests) → Suits t → Met (λ _. body_of names.new body.now) result (index_declared t counting.now.index.now counting.now.direction counting.now.from.now counting.now.to.now (bounds_of bounds.now) (body_of names.old body.now)) }
 {
     check_integer(bounds.from.get())?;
     check_integer(bounds.to.get())?;
@@ -184,26 +181,7 @@ pub(crate) fn end_repeat(
     ended(body.class, span, true, effect, act)
 }
 
-/// The list of a `for`, which sees its index. The index stays.
-fn check_indexed<'a, L: Fn(&mut Scope<'a>, &Body, &'a [Stmt]) -> Result<Listed, Refused>>(
-    here: &Within<'a, L>,
-    names: &mut Scope<'a>,
-    body: &Body,
-    stmts: &'a [Stmt],
-    counting: &Counting<'a>,
-    bounds: &Bounds,
-) -> Result<Listed, Refused>
-    requires blocks { Blocks (stmt_size here.now.stmt.now) (L.pre here.now.list) (L.post here.now.list) }
-    requires inside { stmts_size stmts.now < stmt_size here.now.stmt.now }
-    ensures rule { (t : Tests) → Suits t → Met (listed_of names.old) result (counted_shut t counting.now.index.now counting.now.direction counting.now.from.now counting.now.to.now (bounds_of bounds.now) (map (walk_stmt t) stmts.now) (body_of names.old body.now)) }
-    ensures front { IsFront names.old names.new }
-{
-    declare_index(names, body, counting, bounds)?;
-    check_inside(here, names, body, stmts)
-}
-
-/// The same list, behind which the index is visible no more.
-#[tactic(auto, using(asl_types::proofs::FrontLemmas::front_taken))]
+/// The list of a `for`, which sees its index. The index is visible no more behind it.
 fn check_counted<'a, L: Fn(&mut Scope<'a>, &Body, &'a [Stmt]) -> Result<Listed, Refused>>(
     here: &Within<'a, L>,
     names: &mut Scope<'a>,
@@ -215,12 +193,13 @@ fn check_counted<'a, L: Fn(&mut Scope<'a>, &Body, &'a [Stmt]) -> Result<Listed, 
     requires blocks { Blocks (stmt_size here.now.stmt.now) (L.pre here.now.list) (L.post here.now.list) }
     requires inside { stmts_size stmts.now < stmt_size here.now.stmt.now }
     ensures rule { (t : Tests) → Suits t → Met (listed_of names.old) result (counted_shut t counting.now.index.now counting.now.direction counting.now.from.now counting.now.to.now (bounds_of bounds.now) (map (walk_stmt t) stmts.now) (body_of names.old body.now)) }
-    ensures kept { names.new ≡ names.old }
+    ensures kept { OnOk result (names.new ≡ names.old) }
 {
     let height = names.len();
-    let list = check_indexed(here, names, body, stmts, counting, bounds);
+    declare_index(names, body, counting, bounds)?;
+    let list = check_inside(here, names, body, stmts)?;
     names.truncate(height);
-    list
+    Ok(list)
 }
 
 /// A `for`: its bounds and its limit, its index, and then its list, which sees the index.
@@ -234,8 +213,7 @@ pub fn check_for<'a, L: Fn(&mut Scope<'a>, &Body, &'a [Stmt]) -> Result<Listed, 
 ) -> Result<Done, Refused>
     requires blocks { Blocks (stmt_size here.now.stmt.now) (L.pre here.now.list) (L.post here.now.list) }
     requires inside { stmts_size stmts.now < stmt_size here.now.stmt.now }
-    ensures rule { (t : Tests) → Suits t → Met (done_of names.new) result (for_walk t counting.now.span counting.now.index.now counting.now.from.now counting.now.direction counting.now.to.now limit.now (map (walk_stmt t) stmts.now) (body_of names.old body.now)) }
-    ensures kept { names.new ≡ names.old }
+    ensures { (t : Tests) → Suits t → Met (done_of names.new) result (for_walk t counting.now.span counting.now.index.now counting.now.from.now counting.now.direction counting.now.to.now limit.now (map (walk_stmt t) stmts.now) (body_of names.old body.now)) }
 {
     let bounds = type_bounds(names, body, counting, limit)?;
     let list = check_counted(here, names, body, stmts, counting, &bounds)?;
@@ -252,8 +230,7 @@ pub fn check_while<'a, L: Fn(&mut Scope<'a>, &Body, &'a [Stmt]) -> Result<Listed
 ) -> Result<Done, Refused>
     requires blocks { Blocks (stmt_size here.now.stmt.now) (L.pre here.now.list) (L.post here.now.list) }
     requires inside { stmts_size stmts.now < stmt_size here.now.stmt.now }
-    ensures rule { (t : Tests) → Suits t → Met (done_of names.new) result (while_walk t turning.now.span turning.now.condition.now turning.now.limit.now (map (walk_stmt t) stmts.now) (body_of names.old body.now)) }
-    ensures kept { names.new ≡ names.old }
+    ensures { (t : Tests) → Suits t → Met (done_of names.new) result (while_walk t turning.now.span turning.now.condition.now turning.now.limit.now (map (walk_stmt t) stmts.now) (body_of names.old body.now)) }
 {
     let condition = type_in(names, body, turning.condition)?;
     let limit = type_limit(names, body, turning.limit)?;
@@ -271,8 +248,7 @@ pub fn check_repeat<'a, L: Fn(&mut Scope<'a>, &Body, &'a [Stmt]) -> Result<Liste
 ) -> Result<Done, Refused>
     requires blocks { Blocks (stmt_size here.now.stmt.now) (L.pre here.now.list) (L.post here.now.list) }
     requires inside { stmts_size stmts.now < stmt_size here.now.stmt.now }
-    ensures rule { (t : Tests) → Suits t → Met (done_of names.new) result (repeat_walk t turning.now.span (map (walk_stmt t) stmts.now) turning.now.condition.now turning.now.limit.now (body_of names.old body.now)) }
-    ensures kept { names.new ≡ names.old }
+    ensures { (t : Tests) → Suits t → Met (done_of names.new) result (repeat_walk t turning.now.span (map (walk_stmt t) stmts.now) turning.now.condition.now turning.now.limit.now (body_of names.old body.now)) }
 {
     let list = check_inside(here, names, body, stmts)?;
     let condition = type_in(names, body, turning.condition)?;

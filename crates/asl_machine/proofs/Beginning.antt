@@ -1,11 +1,11 @@
 -- The memory of a machine before its first call.
 use Rattle.std.proofs.Common.{◌≡◌, ℕ, suc, Bool, true, false, cond, List, [], ◌∷◌, length, map, refl, sym, ap, ◌∙◌, subst}
 use Rattle.std.proofs.Math.Logic.{∥∥₁_elim, ∥∥₁_map}
-use Rattle.asl_rules.specs.private.Agreement.{GlobalsMatch, no_atoms}
+use Rattle.asl_rules.specs.private.Agreement.{GlobalsMatch}
 use Rattle.asl_rules.specs.runs.States.{Binding}
 use Rattle.asl_rules.specs.Tests.{Tests}
 use Rattle.asl_rules.specs.values.Values as rules
-use Rattle.asl_laws.proofs.soundness.ProgramSound.{soundness}
+use Rattle.asl_laws.proofs.soundness.Soundness.{soundness}
 use Rattle.asl_laws.proofs.soundness.SoundnessFacts.{facts_of}
 use Rattle.asl_tree.specs.Sealed.{Sealed, Cell, cells_in, cells_of, IsSealed}
 use Rattle.asl_tree.specs.declared.act.TreeFunc.{TreeFunc}
@@ -102,4 +102,4 @@ begun_arranged c fs gs s = λ t r. ∥∥₁_map (s t r) (λ m. record {
 pub begun_held : (c : Sealed) (fs : List TreeFunc) (gs : List Global) → IsSealed c.decls c.asked c.entries fs gs → HoldStorage c (given (marks_of gs) (values_in gs) (vars_from gs))
 begun_held c fs gs s = λ t r. ∥∥₁_map (s t r) (λ m.
     let sound = soundness t r.right c.decls _ (facts_of t c.asked c.decls _ m.accepts) m.grown in
-    record { accepted = _; is = m.accepts; match = subst (λ bs. GlobalsMatch m.names no_atoms bs) (sym (begun_is c fs gs s t r)) sound.0.initial })
+    record { accepted = _; is = m.accepts; match = subst (λ bs. GlobalsMatch m.names bs) (sym (begun_is c fs gs s t r)) sound.0.initial })

@@ -1,7 +1,7 @@
 -- What is known of a call over no text is known of it over the text that the sink held, with the noted bytes behind that.
 use Rattle.std.proofs.Common.{◌≡◌, ℕ, ◌-◌, Bool, false, List, [], Option, Some, Result, Ok, Err, refl, sym, ap, ◌∙◌, subst}
 use Rattle.std.specs.Prelude.{option_map}
-use Rattle.asl_rules.specs.declarations.Environments.{Environment}
+use Rattle.asl_rules.specs.declarations.Programs.{Environment}
 use Rattle.asl_rules.specs.runs.Machines.{GivenUp, run_of, text_of_run}
 use Rattle.asl_rules.specs.runs.Plans.{Meter, starting, Outcome, Done, Thrown, Halt, Faulted, final}
 use Rattle.asl_rules.specs.runs.States.{Binding, Core, resting}

@@ -6,7 +6,7 @@ use Rattle.asl_rules.specs.declarations.Programs.{verdict, Accepted, environment
 use Rattle.asl_rules.specs.Tests.{Tests}
 use Rattle.asl_rules.specs.declared.entry.Entry.TheVariants as entry
 use Rattle.asl_laws.proofs.reported.Asked.{HasAsked, has_asked, main_there}
-use Rattle.asl_laws.proofs.soundness.ProgramSound.{soundness}
+use Rattle.asl_laws.proofs.soundness.Soundness.{soundness}
 use Rattle.asl_laws.proofs.soundness.SoundnessEntry.{main_call}
 use Rattle.asl_laws.proofs.soundness.SoundnessFacts.{facts_of}
 use Rattle.asl_tree.specs.Sealed.{Sealed}

@@ -1,8 +1,7 @@
 -- A call over the memory of a machine: its values are moved into a run and back.
 use Rattle.std.proofs.Common.{◌≡◌, ℕ, ◌-◌, ◌≤◌, Bool, List, [], Option, Some, Result, Ok, Err, refl, sym, ap, ◌∙◌, subst, map, length}
 use Rattle.std.specs.Prelude.{option_map, OnOk}
-use Rattle.asl_rules.specs.runs.Machines.{GivenUp}
-use Rattle.asl_rules.specs.runs.Limits.{most_open}
+use Rattle.asl_rules.specs.runs.Machines.{GivenUp, most_open}
 use Rattle.asl_rules.specs.declarations.Programs.{environment}
 use Rattle.asl_rules.specs.runs.Plans.{final}
 use Rattle.asl_rules.specs.Tests.{Tests}

@@ -3,10 +3,9 @@ use Rattle.std.proofs.Common.{◌≡◌, ℕ, zero, suc, ◌-◌, ◌<◌, Bool,
 use Rattle.asl_rules.specs.runs.Told.{appended, open_after, Begins, Part}
 use Rattle.asl_rules.specs.values.Values as rules
 use Rattle.asl_rules.specs.runs.States.{Binding, Core, resting}
-use Rattle.asl_rules.specs.declarations.Environments.{Environment}
+use Rattle.asl_rules.specs.declarations.Programs.{Environment}
 use Rattle.asl_rules.specs.runs.Plans.{Meter, starting, Outcome, Done, Thrown, Halt, final, meanings}
-use Rattle.asl_rules.specs.runs.Machines.{GivenUp, run_of, text_of_run}
-use Rattle.asl_rules.specs.runs.Limits.{most_open}
+use Rattle.asl_rules.specs.runs.Machines.{GivenUp, most_open, run_of, text_of_run}
 use Rattle.asl_rules.specs.runs.Evaluation.{nodes, call_of}
 use Rattle.asl_rules.proofs.basics.Pieces.{appended_twice}
 use Rattle.asl_laws.proofs.runs.Budget.{run_after, grows, longer, same_text}

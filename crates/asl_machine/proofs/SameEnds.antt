@@ -6,11 +6,10 @@ use Rattle.asl_syn.specs.declared.token.Span.{Span}
 use Rattle.asl_rules.specs.runs.Cuts.{cuts, cuttings}
 use Rattle.asl_rules.specs.private.Erasure.{values_of, erased, erased_outcome}
 use Rattle.asl_rules.specs.runs.Forms.{Keeps, returned, at_end}
-use Rattle.asl_rules.specs.runs.Machines.{GivenUp, run_of, text_of_run}
-use Rattle.asl_rules.specs.runs.Limits.{most_open}
+use Rattle.asl_rules.specs.runs.Machines.{GivenUp, most_open, run_of, text_of_run}
 use Rattle.asl_rules.specs.runs.Evaluation.{nodes, call_of}
 use Rattle.asl_rules.specs.runs.Plans.{Meter, starting, Outcome, Done, Thrown, Halt, End, final, meanings, Pure, Good, Bad, Ret, lift}
-use Rattle.asl_rules.specs.declarations.Environments.{Environment}
+use Rattle.asl_rules.specs.declarations.Programs.{Environment}
 use Rattle.asl_laws.specs.Soundness.{tree_run}
 use Rattle.asl_rules.specs.runs.StatementForms.{in_order}
 use Rattle.asl_rules.specs.runs.States.{Binding, Core, resting}

@@ -8,8 +8,7 @@ use Rattle.asl_rules.specs.private.Agreement.{types_in, no_atoms, GlobalsMatch}
 use Rattle.asl_rules.specs.private.Belonging.{Belong}
 use Rattle.asl_rules.specs.runs.Cuts.{cuts}
 use Rattle.asl_rules.specs.private.Erasure.{values_of, erased, erased_outcome}
-use Rattle.asl_rules.specs.runs.Machines.{GivenUp, run_of}
-use Rattle.asl_rules.specs.runs.Limits.{most_open}
+use Rattle.asl_rules.specs.runs.Machines.{GivenUp, most_open, run_of}
 use Rattle.asl_rules.specs.runs.Plans.{Meter, Mistake, starting, Outcome, Done, Thrown, Halt, Faulted, Stuck, final}
 use Rattle.asl_rules.specs.declarations.Programs.{Accepted, accepted, verdict, environment}
 use Rattle.asl_laws.specs.Soundness.{NotStuck, KeepsGlobals, IsCall, Soundness, SameMeaning, trees_of, tree_run}
@@ -20,7 +19,7 @@ use Rattle.asl_rules.specs.values.Values as rules
 use Rattle.asl_laws.proofs.runs.GlobalsKept.{SameBut, Kept, AtRest, run_of_keeps, run_of_rests}
 use Rattle.asl_rules.proofs.basics.Inversions.{ok_ok}
 use Rattle.asl_laws.proofs.runs.PlansKeep.{EndsIn}
-use Rattle.asl_laws.proofs.soundness.ProgramSound.{soundness}
+use Rattle.asl_laws.proofs.soundness.Soundness.{soundness}
 use Rattle.asl_laws.proofs.soundness.SoundnessFacts.{facts_of}
 use Rattle.asl_syn.specs.declared.token.Span.{Span}
 use Rattle.asl_tree.specs.Funcs.{all_funcs}
@@ -49,7 +48,7 @@ record Known (t : Tests) (c : Sealed) (fs : List TreeFunc) (id : ℕ) (args : Li
   accepted : Accepted
   sound : Soundness t c.decls accepted
   same : SameMeaning t c.decls accepted
-  call : IsCall accepted no_atoms id args (globals_with t c values)
+  call : IsCall accepted id args (globals_with t c values)
   trees : accepted.funcs ≡ all_funcs fs
   is : verdict c.asked c.decls t ≡ Ok accepted
 
@@ -68,7 +67,7 @@ known t r c fs gs id args values m h k =
         is = subst (λ (z : Accepted). slice_get z.signatures id ≡ Some k.signature) its k.called;
         no_params = k.no_params;
         args_belong = subst (λ (z : Accepted). Belong (types_in z.names) no_atoms args k.signature.formals) its k.args_belong;
-        globals_match = subst (λ (z : Accepted). GlobalsMatch z.names no_atoms (globals_with t c values)) mine h.match;
+        globals_match = subst (λ (z : Accepted). GlobalsMatch z.names (globals_with t c values)) mine h.match;
       };
       trees = refl;
       is = m.accepts;
@@ -99,8 +98,8 @@ stuck_never t r c fs gs sealed id args values held call h m span core k e =
     let w = known t r c fs gs id args values p d call in
     not_stuck (run_of (environment t c.decls) id args (globals_with t c values) h) m span core k (w.sound.never_stuck id args (globals_with t c values) h w.call) e))
 
-done_keeps : (names : _) (r : Outcome Core (Option rules.Value)) (x : Option rules.Value) (c : Core) (k : Meter) → KeepsGlobals names no_atoms r → r ≡ Done x c k → GlobalsMatch names no_atoms c.globals
-done_keeps names r x c k n e = subst (KeepsGlobals names no_atoms) e n
+done_keeps : (names : _) (r : Outcome Core (Option rules.Value)) (x : Option rules.Value) (c : Core) (k : Meter) → KeepsGlobals names r → r ≡ Done x c k → GlobalsMatch names c.globals
+done_keeps names r x c k n e = subst (KeepsGlobals names) e n
 
 -- ---- the values of the globals
 

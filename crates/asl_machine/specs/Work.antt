@@ -87,7 +87,7 @@ Arranged c marks values vars = (t : Tests) → Suits t → ∥ IsOf (initial_of 
 pub record IsHeld (t : Tests) (c : Sealed) (values : List Value) : Type 0 where
   pub accepted : Accepted
   pub is : verdict c.asked c.decls t ≡ Ok accepted
-  pub match : GlobalsMatch accepted.names no_atoms (globals_with t c values)
+  pub match : GlobalsMatch accepted.names (globals_with t c values)
 
 abbrev pub HoldStorage : Sealed → List Value → Type 0
 HoldStorage c values = (t : Tests) → Suits t → ∥ IsHeld t c values ∥₁

@@ -1,7 +1,7 @@
 //! A call whose sink is noted.
 ghost use Rattle.std.specs.Prelude.{◌≡◌, [], Some, map, option_map};
 ghost use Rattle.asl_rules.specs.private.TypedMeaning.{tree_call};
-ghost use Rattle.asl_rules.specs.runs.Limits.{most_open};
+ghost use Rattle.asl_rules.specs.runs.Machines.{most_open};
 ghost use Rattle.asl_value.specs.View.{value_of};
 ghost use Rattle.asl_branches.specs.Meets.{Counts, Runs};
 ghost use Rattle.asl_branches.specs.View.{program_of};

@@ -1,297 +1,328 @@
--- The graph of a program is of its declarations: a way from one to another is a path.
-use Rattle.std.proofs.Common.{◌≡◌, ℕ, zero, suc, ◌+◌, ◌-◌, ◌*◌, ◌<◌, ◌≤◌, ◌⊎◌, inl, inr, true, false, not, ◌&&◌, List, [], ◌∷◌, ◌++◌, length, Some, refl, sym, ap, ◌∙◌, subst, arith}
+-- The graph of a program is of its declarations: an edge is a use, and a way a path.
+use Rattle.std.proofs.Common.{◌≡◌, ℕ, zero, suc, ◌+◌, inl, inr, Bool, true, false, not, ◌&&◌, ◌||◌, cond, List, [], ◌∷◌, ◌++◌, length, map, get_or, Option, Some, None, refl, sym, ap, ◌∙◌, subst, arith}
+use Rattle.std.specs.Prelude.{◌==◌}
 use Rattle.std.specs.List.{slice_get}
-use Rattle.std.proofs.lemmas.Bool.{cases_lt, not-true}
-use Rattle.std.proofs.lemmas.List.{get_or_past}
-use Rattle.std.proofs.lemmas.Option.{slice_get_within}
+use Rattle.std.specs.Str.{bytes_eq}
+use Rattle.std.specs.Cmp.Lexicographic.{bytes_decides, nat_list_eq_equiv}
+use Rattle.std.proofs.lemmas.Bool.{eq-eqb, eqb-true}
 use Rattle.asl_syn.specs.declared.tree.Decl.{Decl}
 use Rattle.asl_syn.specs.declared.tree.Decl.TheVariants as dc
-use Rattle.asl_syn.specs.declared.tree.Func.{Func}
-use Rattle.asl_rules.specs.declarations.Names.{all_declared}
-use Rattle.asl_rules.specs.declarations.Uses.{is_func, uses_one_of, leads_by, leads_to, reaches, any_reaches}
+use Rattle.asl_syn.specs.declared.tree.Ident.{Ident}
+use Rattle.asl_rules.specs.declarations.Names.{Declared, declared_as, declared_by, all_declared}
+use Rattle.asl_rules.specs.declarations.Uses.{Used, uses, is_declared, declares, any_declared, uses_one_of, leads_by, leads_to, reaches_itself}
+use Rattle.asl_names.specs.private.Firsts.{Places, first_place, kept_by, kept}
+use Rattle.asl_names.specs.private.Graphs.{all_kept, plain_names, named_at, all_places, declarers, with_used, added, graph_of}
 use Rattle.asl_turns.specs.Graphs.{Graph, row, is_among}
-use Rattle.asl_names.specs.private.Graphs.{graph_of, node_of}
 use Rattle.asl_names.specs.private.Ways.{is_way, HasWay}
-use Rattle.asl_rules.proofs.basics.Tests.{no, both, and_true, either, or_first, or_second}
-use Rattle.asl_rules.proofs.verdict.Distinct.{In, Distinct}
+use Rattle.asl_rules.proofs.basics.Tests.{no, some_none, some_same, both, either, or_second, and_true, same_name, name_is}
+use Rattle.asl_rules.proofs.basics.Tests.{none_some}
+use Rattle.asl_rules.proofs.verdict.Distinct.{In, Distinct, Plain, NotIn, front_not_in, rest_distinct, plain_in}
 use Rattle.asl_rules.proofs.verdict.Reaching.{step_of, leads_step, Reaches, short}
-use Rattle.asl_names.proofs.Tables.{At, at_in, in_at}
-use Rattle.asl_names.proofs.Edges.{PlainNode, NameNode, same_at, edge_plain, edge_name, edge_at, name_uses, overload_used, has_name, empty_row, third_part, length_graph}
 
--- ---- ways
+-- ---- places of declarations
 
-pub way_then : (g : Graph) (xs ys : List ℕ) (a b c : ℕ) → is_way g a xs b ≡ true → is_way g b ys c ≡ true →
-    is_way g a (xs ++ b ∷ ys) c ≡ true
-way_then g [] ys a b c h k = and_true (is_among b (row g a)) (is_way g b ys c) h k
-way_then g (x ∷ xs) ys a b c h k =
-    let p = both (is_among x (row g a)) (is_way g x xs b) h in
-    and_true (is_among x (row g a)) (is_way g x (xs ++ b ∷ ys) c) p.0 (way_then g xs ys x b c p.1 k)
+abbrev pub At : {A : Type 0} → List A → ℕ → A → Type 0
+At xs n x = slice_get xs n ≡ Some x
 
-no_way : (g : Graph) (a c : ℕ) (ks : List ℕ) → row g a ≡ [] → is_way g a ks c ≡ true → ⊥
-no_way g a c [] e h = no (sym (ap (is_among c) e) ∙ h)
-no_way g a c (k ∷ ks) e h = no (sym (ap (is_among k) e) ∙ (both (is_among k (row g a)) (is_way g k ks c) h).0)
+pub at_in : {A : Type 0} (xs : List A) (n : ℕ) (x : A) → At xs n x → In x xs
+at_in [] n x h = none_some x h
+at_in (y ∷ xs) zero x h = inl (some_same y x h)
+at_in (y ∷ xs) (suc n) x h = inr (at_in xs n x h)
 
-two_kinds : (d : Decl) → (is_func d ≡ false) ⊎ ((f : Func) × (d ≡ dc.Func f))
-two_kinds (dc.Type d) = inl refl
-two_kinds (dc.Storage d) = inl refl
-two_kinds (dc.Func f) = inr (f, refl)
+pub in_at : {A : Type 0} (xs : List A) (x : A) → In x xs → (n : ℕ) × At xs n x
+in_at [] x i = absurd i
+in_at (y ∷ xs) x (inl e) = (0, ap Some e)
+in_at (y ∷ xs) x (inr i) = let r = in_at xs x i in (suc r.0, r.1)
+
+-- ---- what the table answers
+
+or_place : Option ℕ → Option ℕ → Option ℕ
+or_place None p = p
+or_place (Some n) p = Some n
+
+or_none : (o : Option ℕ) → or_place o None ≡ o
+unfolding or_place
+or_none None = refl
+or_none (Some n) = refl
+
+or_in : (b : Bool) (x : ℕ) (o p q : Option ℕ) → o ≡ or_place p q → cond b (Some x) o ≡ or_place (cond b (Some x) p) q
+unfolding or_place
+or_in true x o p q h = refl
+or_in false x o p q h = h
+
+or_three : (o p q : Option ℕ) → or_place (or_place o p) q ≡ or_place o (or_place p q)
+unfolding or_place
+or_three None p q = refl
+or_three (Some n) p q = refl
+
+both_places : (t s : Places) (u : List ℕ) → first_place u (t ++ s) ≡ or_place (first_place u t) (first_place u s)
+unfolding or_place
+both_places [] s u = refl
+both_places (e ∷ t) s u = or_in (bytes_eq u e.0) e.1 _ _ _ (both_places t s u)
+
+stands : (t : Places) (name u : List ℕ) (a n : ℕ) → first_place name t ≡ Some a → or_place (first_place u t) (cond (bytes_eq u name) (Some n) None) ≡ first_place u t
+unfolding or_place
+stands t name u a n h = by (bytes_eq u name) refl
+  where
+    by : (b : Bool) → bytes_eq u name ≡ b → or_place (first_place u t) (cond b (Some n) None) ≡ first_place u t
+    by false e = or_none (first_place u t)
+    by true e =
+        let there : first_place u t ≡ Some a = ap (λ m. first_place m t) ((bytes_decides u name).0 e) ∙ h in
+        ap (λ o. or_place o (Some n)) there ∙ sym there
+
+kept_one : (t : Places) (name u : List ℕ) (n : ℕ) → first_place u (kept name n t) ≡ or_place (first_place u t) (cond (bytes_eq u name) (Some n) None)
+kept_one t name u n = by (first_place name t) refl
+  where
+    by : (o : Option ℕ) → first_place name t ≡ o → first_place u (kept_by o name n t) ≡ or_place (first_place u t) (cond (bytes_eq u name) (Some n) None)
+    by None h = both_places t ((name, n) ∷ []) u
+    by (Some a) h = sym (stands t name u a n h)
+
+or_cond : (b : Bool) (n : ℕ) (o : Option ℕ) → or_place (cond b (Some n) None) o ≡ cond b (Some n) o
+unfolding or_place
+or_cond true n o = refl
+or_cond false n o = refl
+
+kept_all : (ps t : Places) (u : List ℕ) → first_place u (all_kept ps t) ≡ or_place (first_place u t) (first_place u ps)
+kept_all [] t u = sym (or_none (first_place u t))
+kept_all (p ∷ ps) t u =
+    kept_all ps (kept p.0 p.1 t) u ∙ ap (λ o. or_place o (first_place u ps)) (kept_one t p.0 u p.1)
+    ∙ or_three (first_place u t) (cond (bytes_eq u p.0) (Some p.1) None) (first_place u ps)
+    ∙ ap (or_place (first_place u t)) (or_cond (bytes_eq u p.0) p.1 (first_place u ps))
+
+in_table : (ds : List Decl) (u : List ℕ) → first_place u (declarers ds) ≡ first_place u (all_places 0 ds)
+unfolding or_place
+in_table ds u = kept_all (all_places 0 ds) [] u
+
+-- ---- the names of one declaration
+
+has_ident : List ℕ → List Ident → Bool
+has_ident u [] = false
+has_ident u (i ∷ is) = bytes_eq i.text u || has_ident u is
+
+one_name : (b c : Bool) → ((b && true) || c) ≡ (b || c)
+one_name true c = refl
+one_name false c = refl
+
+labels_has : (u : List ℕ) (is : List Ident) → is_declared u (map (declared_as false) is) ≡ has_ident u is
+unfolding has_ident
+labels_has u [] = refl
+labels_has u (i ∷ is) = one_name (bytes_eq i.text u) (is_declared u (map (declared_as false) is)) ∙ ap (λ b. bytes_eq i.text u || b) (labels_has u is)
+
+no_name : (b : Bool) → ((b && false) || false) ≡ false
+no_name true = refl
+no_name false = refl
+
+declares_has : (d : Decl) (u : List ℕ) → declares d u ≡ has_ident u (plain_names d)
+unfolding has_ident
+declares_has (dc.Type d) u = one_name (bytes_eq d.name.text u) (is_declared u (map (declared_as false) _)) ∙ ap (λ b. bytes_eq d.name.text u || b) (labels_has u _)
+declares_has (dc.Storage d) u = one_name (bytes_eq d.name.text u) false
+declares_has (dc.Func f) u = no_name (bytes_eq f.name.text u)
+
+or_cond_both : (a b : Bool) (n : ℕ) → cond a (Some n) (cond b (Some n) None) ≡ cond (a || b) (Some n) None
+or_cond_both true b n = refl
+or_cond_both false b n = refl
+
+named_has : (n : ℕ) (is : List Ident) (u : List ℕ) → first_place u (named_at n is) ≡ cond (has_ident u is) (Some n) None
+unfolding has_ident
+named_has n [] u = refl
+named_has n (i ∷ is) u =
+    ap (λ b. cond b (Some n) (first_place u (named_at n is))) (nat_list_eq_equiv.symm u i.text)
+    ∙ ap (cond (bytes_eq i.text u) (Some n)) (named_has n is u) ∙ or_cond_both (bytes_eq i.text u) (has_ident u is) n
+
+-- the first declaration of a name, or one behind it
+places_first : (n : ℕ) (d : Decl) (ds : List Decl) (u : List ℕ) → first_place u (all_places n (d ∷ ds)) ≡ cond (declares d u) (Some n) (first_place u (all_places (n + 1) ds))
+places_first n d ds u =
+    both_places (named_at n (plain_names d)) (all_places (n + 1) ds) u
+    ∙ ap (λ o. or_place o (first_place u (all_places (n + 1) ds))) (named_has n (plain_names d) u ∙ ap (λ b. cond b (Some n) None) (sym (declares_has d u)))
+    ∙ or_cond (declares d u) n (first_place u (all_places (n + 1) ds))
+
+record Declarer (ds : List Decl) (u : List ℕ) (n k : ℕ) : Type 0 where
+  pub place : ℕ
+  pub is : k ≡ n + place
+  pub decl : Decl
+  pub at : At ds place decl
+  pub declares_it : declares decl u ≡ true
+
+declarer_of : (n : ℕ) (ds : List Decl) (u : List ℕ) (k : ℕ) → first_place u (all_places n ds) ≡ Some k → Declarer ds u n k
+declarer_of n [] u k h = none_some k h
+declarer_of n (d ∷ ds) u k h = by (declares d u) refl (sym (places_first n d ds u) ∙ h) (declarer_of (n + 1) ds u k)
+  where
+    by : (b : Bool) → declares d u ≡ b → cond b (Some n) (first_place u (all_places (n + 1) ds)) ≡ Some k → (first_place u (all_places (n + 1) ds) ≡ Some k → Declarer ds u (n + 1) k) → Declarer (d ∷ ds) u n k
+    by true e q next = let s = some_same n k q in record { place = 0; is = omega (arith, s); decl = d; at = refl; declares_it = e }
+    by false e q next = let r = next q in let i = r.is in record { place = suc r.place; is = omega (arith, i); decl = r.decl; at = r.at; declares_it = r.declares_it }
+
+-- ---- distinct names have one declaration
+
+plain_here : (x : Declared) (xs : List Declared) (u : List ℕ) → (bytes_eq x.name.text u && not x.is_subprogram) ≡ true → Plain u (x ∷ xs)
+plain_here x xs u h = let p = both (bytes_eq x.name.text u) (not x.is_subprogram) h in inl (same_name x.name.text u p.0, not_sub x.is_subprogram p.1)
+  where
+    not_sub : (b : Bool) → not b ≡ true → b ≡ false
+    not_sub true h = no h
+    not_sub false h = refl
+
+pub declared_plain : (u : List ℕ) (xs : List Declared) → is_declared u xs ≡ true → Plain u xs
+declared_plain u [] h = no h
+declared_plain u (x ∷ xs) h = either (bytes_eq x.name.text u && not x.is_subprogram) (is_declared u xs) h (plain_here x xs u) (λ k. inr (declared_plain u xs k))
+
+not_plain : {A : Type 0} (u : List ℕ) (xs : List Declared) → NotIn u xs → Plain u xs → A
+not_plain u [] h p = absurd p
+not_plain u (x ∷ xs) h (inl e) = no (sym h.0 ∙ (ap (λ m. bytes_eq m u) e.0 ∙ name_is u))
+not_plain u (x ∷ xs) h (inr p) = not_plain u xs h.1 p
+
+one_declarer : {A : Type 0} (d : Decl) (ds : List Decl) (u : List ℕ) (e : Decl) → Distinct (all_declared (d ∷ ds)) → declares d u ≡ true → In e ds → declares e u ≡ true → A
+one_declarer d ds u e x h i k =
+    not_plain u (declared_by d) (front_not_in u (declared_by d) (all_declared ds) x (plain_in e ds u i (declared_plain u (declared_by e) k))) (declared_plain u (declared_by d) h)
+
+place_is : (n : ℕ) (ds : List Decl) (u : List ℕ) (j : ℕ) (e : Decl) → Distinct (all_declared ds) → At ds j e → declares e u ≡ true → first_place u (all_places n ds) ≡ Some (n + j)
+place_is n [] u j e x a h = none_some e a
+place_is n (d ∷ ds) u zero e x a h =
+    let q = some_same d e a in
+    let z : n ≡ n + zero = omega arith in
+    places_first n d ds u ∙ ap (λ b. cond b (Some n) (first_place u (all_places (n + 1) ds))) (subst (λ y. declares y u ≡ true) (sym q) h) ∙ ap Some z
+place_is n (d ∷ ds) u (suc j) e x a h = by (declares d u) refl (place_is (n + 1) ds u j e (rest_distinct (declared_by d) (all_declared ds) x) a h)
+  where
+    by : (b : Bool) → declares d u ≡ b → first_place u (all_places (n + 1) ds) ≡ Some (n + 1 + j) → first_place u (all_places n (d ∷ ds)) ≡ Some (n + suc j)
+    by true q k = one_declarer d ds u e x q (at_in ds j e a) h
+    by false q k =
+        let z : n + 1 + j ≡ n + suc j = omega arith in
+        places_first n d ds u ∙ ap (λ b. cond b (Some n) (first_place u (all_places (n + 1) ds))) q ∙ k ∙ ap Some z
+
+-- ---- the graph
+
+is_place : ℕ → Option ℕ → Bool
+is_place j None = false
+is_place j (Some k) = k == j
+
+hits : ℕ → Places → Used → Bool
+hits j t [] = false
+hits j t (u ∷ us) = is_place j (first_place u t) || hits j t us
+
+or_nothing : (b : Bool) → (b || false) ≡ b
+or_nothing true = refl
+or_nothing false = refl
+
+or_assoc : (a b c : Bool) → ((a || b) || c) ≡ (a || (b || c))
+or_assoc true b c = refl
+or_assoc false b c = refl
+
+among_both : (j : ℕ) (ms ns : List ℕ) → is_among j (ms ++ ns) ≡ (is_among j ms || is_among j ns)
+among_both j [] ns = refl
+among_both j (m ∷ ms) ns = ap (λ b. (m == j) || b) (among_both j ms ns) ∙ sym (or_assoc (m == j) (is_among j ms) (is_among j ns))
+
+among_used : (j : ℕ) (o : Option ℕ) (ps : List ℕ) → is_among j (with_used o ps) ≡ (is_among j ps || is_place j o)
+unfolding is_place
+among_used j None ps = sym (or_nothing (is_among j ps))
+among_used j (Some k) ps = among_both j ps (k ∷ []) ∙ ap (λ b. is_among j ps || b) (or_nothing (k == j))
+
+among_added : (j : ℕ) (t : Places) (us : Used) (ps : List ℕ) → is_among j (added t us ps) ≡ (is_among j ps || hits j t us)
+unfolding hits
+among_added j t [] ps = sym (or_nothing (is_among j ps))
+among_added j t (u ∷ us) ps =
+    among_added j t us (with_used (first_place u t) ps) ∙ ap (λ b. b || hits j t us) (among_used j (first_place u t) ps)
+    ∙ or_assoc (is_among j ps) (is_place j (first_place u t)) (hits j t us)
+
+map_get : {A B : Type 0} (f : A → B) (xs : List A) (n : ℕ) (x : A) (d : B) → At xs n x → get_or (map f xs) n d ≡ f x
+map_get f [] n x d h = none_some x h
+map_get f (y ∷ xs) zero x d h = ap f (some_same y x h)
+map_get f (y ∷ xs) (suc n) x d h = map_get f xs n x d h
+
+map_past : {A B : Type 0} (f : A → B) (xs : List A) (n : ℕ) (d : B) → slice_get xs n ≡ None → get_or (map f xs) n d ≡ d
+map_past f [] n d h = refl
+map_past f (y ∷ xs) zero d h = some_none y h
+map_past f (y ∷ xs) (suc n) d h = map_past f xs n d h
 
 module _ (ds : List Decl) (distinct : Distinct (all_declared ds)) where
-  plain_at : (p : ℕ) (d : Decl) → is_func d ≡ false → node_of (length ds) p d ≡ length ds + p
-  plain_at p (dc.Type d) h = refl
-  plain_at p (dc.Storage d) h = refl
-  plain_at p (dc.Func f) h = no (sym h)
+  g : Graph
+  g = graph_of ds
 
-  -- ---- a way is a path
+  row_is : (n : ℕ) (d : Decl) → At ds n d → row (graph_of ds) n ≡ added (declarers ds) (uses d) []
+  row_is n d h = map_get (λ d. added (declarers ds) (uses d) []) ds n d [] h
 
-  -- the first uses a declaration, which reaches the second or is it
-  one_more : (d m e : Decl) → In m ds → uses_one_of d m ≡ true → Reaches ds m e → Reaches ds d e
-  one_more d m e i u r = (
-    suc r.0,
-    or_second (uses_one_of d e) (leads_by (λ x. leads_to r.0 ds x e) d ds)
-        (leads_step (λ x. leads_to r.0 ds x e) d m ds i u r.1),
-  )
+  row_past : (n : ℕ) → slice_get ds n ≡ None → row (graph_of ds) n ≡ []
+  row_past n h = map_past (λ d. added (declarers ds) (uses d) []) ds n [] h
 
-  -- the end of a way is where the last edge leads
-  ends_at : (q : ℕ) (e : Decl) (d m : Decl) (j : ℕ) → At ds q e → At ds j m → node_of (length ds) q e ≡ node_of (length ds) j m → m ≡ e
-  ends_at q e d m j b a h =
-      same_at ds q m e (sym (ap (slice_get ds) (same_place q j e m (slice_get_within ds q e b) (slice_get_within ds j m a) h)) ∙ a) b
+  place_declares : (u : List ℕ) (j : ℕ) (e : Decl) → At ds j e → is_place j (first_place u (declarers ds)) ≡ declares e u
+  unfolding is_place
+  place_declares u j e a = ap (is_place j) (in_table ds u) ∙ by (declares e u) refl
     where
-      same_place : (q j : ℕ) (e m : Decl) → q < length ds → j < length ds → node_of (length ds) q e ≡ node_of (length ds) j m → j ≡ q
-      same_place q j (dc.Type e) (dc.Type m) k l h = omega (arith, h)
-      same_place q j (dc.Type e) (dc.Storage m) k l h = omega (arith, h)
-      same_place q j (dc.Type e) (dc.Func m) k l h = omega (arith, h, k, l)
-      same_place q j (dc.Storage e) (dc.Type m) k l h = omega (arith, h)
-      same_place q j (dc.Storage e) (dc.Storage m) k l h = omega (arith, h)
-      same_place q j (dc.Storage e) (dc.Func m) k l h = omega (arith, h, k, l)
-      same_place q j (dc.Func e) (dc.Type m) k l h = omega (arith, h, k, l)
-      same_place q j (dc.Func e) (dc.Storage m) k l h = omega (arith, h, k, l)
-      same_place q j (dc.Func e) (dc.Func m) k l h = omega (arith, h)
+      miss : (o : Option ℕ) → first_place u (all_places 0 ds) ≡ o → declares e u ≡ false → is_place j o ≡ false
+      miss None q h = refl
+      miss (Some k) q h = by_eq (k == j) refl
+        where
+          by_eq : (b : Bool) → (k == j) ≡ b → b ≡ false
+          by_eq false z = refl
+          by_eq true z =
+              let r = declarer_of 0 ds u k q in
+              let i = r.is in
+              let w = eqb-true k j z in
+              let same : r.place ≡ j = omega (arith, i, w) in
+              let one : decl_at r.place j r.decl e = (same, r.at, a) in
+              no (sym h ∙ subst (λ y. declares y u ≡ true) (at_one one) r.declares_it)
+            where
+              decl_at : ℕ → ℕ → Decl → Decl → Type 0
+              decl_at m n x y = (m ≡ n) × At ds m x × At ds n y
 
-  -- a declaration of which the node is used
-  record Next (d : Decl) (k : ℕ) : Type 0 where
-    pub decl : Decl
-    pub place : ℕ
-    pub at : At ds place decl
-    pub node : k ≡ node_of (length ds) place decl
-    pub is_used : uses_one_of d decl ≡ true
+              at_one : {m n : ℕ} {x y : Decl} → decl_at m n x y → x ≡ y
+              at_one z = some_same _ _ (sym z.1 ∙ ap (slice_get ds) z.0 ∙ z.2)
 
-  plain_next : (p k : ℕ) (d : Decl) → At ds p d → is_among k (row (graph_of ds) (node_of (length ds) p d)) ≡ true →
-      PlainNode ds distinct k → Next d k
-  plain_next p k d a h r = record {
-    decl = r.decl;
-    place = r.place;
-    at = r.at;
-    node = r.is ∙ sym (plain_at r.place r.decl r.plain);
-    is_used = sym (edge_plain ds distinct p r.place d r.decl a r.at r.plain)
-        ∙ (sym (ap (λ m. is_among m (row (graph_of ds) (node_of (length ds) p d))) r.is) ∙ h);
-  }
+      by : (b : Bool) → declares e u ≡ b → is_place j (first_place u (all_places 0 ds)) ≡ b
+      by true h = let z : 0 + j ≡ j = omega arith in ap (is_place j) (place_is 0 ds u j e distinct a h ∙ ap Some z) ∙ eq-eqb j j refl
+      by false h = miss (first_place u (all_places 0 ds)) refl h
 
-  -- from a name on
-  name_next : (p k m : ℕ) (d : Decl) → At ds p d → is_among k (row (graph_of ds) (node_of (length ds) p d)) ≡ true →
-      NameNode ds distinct k →
-      is_among m (row (graph_of ds) k) ≡ true → Next d m
-  name_next p k m d a h r i =
-      let l = slice_get_within ds k (dc.Func r.func) r.at in
-      let o = name_uses ds distinct k m l i in
-      record {
-        decl = dc.Func o.func;
-        place = o.place;
-        at = o.at;
-        node = o.is;
-        is_used = sym (edge_name ds distinct p k d o.func a o.named) ∙ h;
-      }
+  hits_used : (us : Used) (j : ℕ) (e : Decl) → At ds j e → hits j (declarers ds) us ≡ any_declared e us
+  unfolding hits
+  hits_used [] j e a = refl
+  hits_used (u ∷ us) j e a = ap (λ b. b || hits j (declarers ds) us) (place_declares u j e a) ∙ ap (λ b. declares e u || b) (hits_used us j e a)
 
-  -- a node of a declaration is no name
-  no_name : (q k : ℕ) (e : Decl) → NameNode ds distinct k → k ≡ node_of (length ds) q e → ⊥
-  no_name q k (dc.Type e) r h = let l = slice_get_within ds k (dc.Func r.func) r.at in omega (arith, h, l)
-  no_name q k (dc.Storage e) r h = let l = slice_get_within ds k (dc.Func r.func) r.at in omega (arith, h, l)
-  no_name q k (dc.Func e) r h = let l = slice_get_within ds k (dc.Func r.func) r.at in omega (arith, h, l)
+  -- an edge is a use
+  pub edge_is : (n j : ℕ) (d e : Decl) → At ds n d → At ds j e → is_among j (row (graph_of ds) n) ≡ uses_one_of d e
+  edge_is n j d e a b = ap (is_among j) (row_is n d a) ∙ among_added j (declarers ds) (uses d) [] ∙ hits_used (uses d) j e b
 
-  at_end : (q k : ℕ) (d e : Decl) → At ds q e → k ≡ node_of (length ds) q e → Next d k → Reaches ds d e
-  at_end q k d e b s n = (0, subst (λ x. uses_one_of d x ≡ true) (ends_at q e d n.decl n.place b n.at (sym s ∙ n.node)) n.is_used)
-
-  way_leads : (ks : List ℕ) (p q : ℕ) (d e : Decl) → At ds p d → At ds q e →
-      is_way (graph_of ds) (node_of (length ds) p d) ks (node_of (length ds) q e) ≡ true → Reaches ds d e
-  way_leads [] p q d e a b h = by (edge_at ds distinct p (node_of (length ds) q e) d a h)
+  hit_at : (j : ℕ) (us : Used) → hits j (declarers ds) us ≡ true → (e : Decl) × At ds j e
+  unfolding hits is_place
+  hit_at j [] h = no h
+  hit_at j (u ∷ us) h = either (is_place j (first_place u (declarers ds))) (hits j (declarers ds) us) h (λ k. by (first_place u (all_places 0 ds)) refl (sym (ap (is_place j) (in_table ds u)) ∙ k)) (hit_at j us)
     where
-      by : PlainNode ds distinct (node_of (length ds) q e) ⊎ NameNode ds distinct (node_of (length ds) q e) → Reaches ds d e
-      by (inl r) = at_end q (node_of (length ds) q e) d e b refl (plain_next p (node_of (length ds) q e) d a h r)
-      by (inr r) = absurd (no_name q (node_of (length ds) q e) e r refl)
-  way_leads (k ∷ []) p q d e a b h =
-      let w = both (is_among k (row (graph_of ds) (node_of (length ds) p d)))
-      (is_among (node_of (length ds) q e) (row (graph_of ds) k)) h in
-      by (edge_at ds distinct p k d a w.0) w.0 w.1 (λ m j c z. way_leads [] j q m e c b z)
-    where
-      by : PlainNode ds distinct k ⊎ NameNode ds distinct k → is_among k (row (graph_of ds) (node_of (length ds) p d)) ≡ true →
-          is_among (node_of (length ds) q e) (row (graph_of ds) k) ≡ true →
-          ((m : Decl) (j : ℕ) → At ds j m → is_among (node_of (length ds) q e) (row (graph_of ds) (node_of (length ds) j m)) ≡ true →
-          Reaches ds m e) → Reaches ds d e
-      by (inl r) u v f =
-          let n = plain_next p k d a u r in
-          one_more d n.decl e (at_in ds n.place n.decl n.at) n.is_used
-          (f n.decl n.place n.at (subst (λ x. is_among (node_of (length ds) q e) (row (graph_of ds) x) ≡ true) n.node v))
-      by (inr r) u v f = at_end q (node_of (length ds) q e) d e b refl (name_next p k (node_of (length ds) q e) d a u r v)
-  way_leads (k ∷ m ∷ ks) p q d e a b h =
-      let g = graph_of ds in
-      let w = both (is_among k (row g (node_of (length ds) p d))) (is_among m (row g k) && is_way g m ks (node_of (length ds) q e)) h in
-      by (edge_at ds distinct p k d a w.0) w.0 w.1 (λ x j c z. way_leads (m ∷ ks) j q x e c b z) (λ x j c z. way_leads ks j q x e c b z)
-    where
-      by : PlainNode ds distinct k ⊎ NameNode ds distinct k → is_among k (row (graph_of ds) (node_of (length ds) p d)) ≡ true →
-          is_way (graph_of ds) k (m ∷ ks) (node_of (length ds) q e) ≡ true →
-          ((x : Decl) (j : ℕ) → At ds j x → is_way (graph_of ds) (node_of (length ds) j x) (m ∷ ks) (node_of (length ds) q e) ≡ true →
-          Reaches ds x e) →
-          ((x : Decl) (j : ℕ) → At ds j x → is_way (graph_of ds) (node_of (length ds) j x) ks (node_of (length ds) q e) ≡ true →
-          Reaches ds x e) → Reaches ds d e
-      by (inl r) u v f g =
-          let n = plain_next p k d a u r in
-          one_more d n.decl e (at_in ds n.place n.decl n.at) n.is_used
-          (f n.decl n.place n.at (subst (λ x. is_way (graph_of ds) x (m ∷ ks) (node_of (length ds) q e) ≡ true) n.node v))
-      by (inr r) u v f g =
-          let w = both (is_among m (row (graph_of ds) k)) (is_way (graph_of ds) m ks (node_of (length ds) q e)) v in
-          let n = name_next p k m d a u r w.0 in
-          one_more d n.decl e (at_in ds n.place n.decl n.at) n.is_used
-          (g n.decl n.place n.at (subst (λ x. is_way (graph_of ds) x ks (node_of (length ds) q e) ≡ true) n.node w.1))
+      by : (o : Option ℕ) → first_place u (all_places 0 ds) ≡ o → is_place j o ≡ true → (e : Decl) × At ds j e
+      by None q k = no k
+      by (Some m) q k =
+          let r = declarer_of 0 ds u m q in
+          let i = r.is in
+          let w = eqb-true m j k in
+          let same : r.place ≡ j = omega (arith, i, w) in
+          (r.decl, sym (ap (slice_get ds) same) ∙ r.at)
 
-  -- ---- a path is a way
-
-  use_way : (p q : ℕ) (d e : Decl) → At ds p d → At ds q e → uses_one_of d e ≡ true →
-      HasWay (graph_of ds) (node_of (length ds) p d) (node_of (length ds) q e)
-  use_way p q d e a b u = by (two_kinds e)
+  -- an edge leads to a declaration
+  pub edge_at : (n j : ℕ) → is_among j (row (graph_of ds) n) ≡ true → (e : Decl) × At ds j e
+  edge_at n j h = by (slice_get ds n) refl
     where
-      by : (is_func e ≡ false) ⊎ ((f : Func) × (e ≡ dc.Func f)) → HasWay (graph_of ds) (node_of (length ds) p d) (node_of (length ds) q e)
-      by (inl h) = (
-        [],
-        ap (λ m. is_among m (row (graph_of ds) (node_of (length ds) p d))) (plain_at q e h)
-            ∙ (edge_plain ds distinct p q d e a b h ∙ u),
-      )
-      by (inr r) =
-          let f = r.0 in
-          let c : At ds q (dc.Func f) = b ∙ ap Some r.1 in
-          let k = has_name ds distinct q f c in
-          let first = edge_name ds distinct p k.0 d f a k.2 ∙ (ap (uses_one_of d) (sym r.1) ∙ u) in
-          let second = overload_used ds distinct k.0 q f c k.2 in (
-            k.0 ∷ [],
-            subst (λ x. is_way (graph_of ds) (node_of (length ds) p d) (k.0 ∷ []) (node_of (length ds) q x) ≡ true) (sym r.1)
-                (and_true (is_among k.0 (row (graph_of ds) (node_of (length ds) p d)))
-                (is_among (2 * length ds + q) (row (graph_of ds) k.0)) first second),
-          )
+      by : (o : Option Decl) → slice_get ds n ≡ o → (e : Decl) × At ds j e
+      by None q = no (sym (ap (is_among j) (row_past n q)) ∙ h)
+      by (Some d) q = hit_at j (uses d) (sym (ap (is_among j) (row_is n d q) ∙ among_added j (declarers ds) (uses d) []) ∙ h)
 
-  leads_way : (l p q : ℕ) (d e : Decl) → At ds p d → At ds q e → leads_to l ds d e ≡ true →
-      HasWay (graph_of ds) (node_of (length ds) p d) (node_of (length ds) q e)
-  leads_way zero p q d e a b h = use_way p q d e a b h
-  leads_way (suc l) p q d e a b h =
+  -- ---- ways are paths
+
+  way_leads : (ks : List ℕ) (n j : ℕ) (d e : Decl) → At ds n d → At ds j e → is_way (graph_of ds) n ks j ≡ true → Reaches ds d e
+  way_leads [] n j d e a b h = (0, sym (edge_is n j d e a b) ∙ h)
+  way_leads (k ∷ ks) n j d e a b h =
+      let p = both (is_among k (row (graph_of ds) n)) (is_way (graph_of ds) k ks j) h in
+      let m = edge_at n k p.0 in
+      let r = way_leads ks k j m.0 e m.1 b p.1 in
+      (suc r.0, or_second (uses_one_of d e) (leads_by (λ x. leads_to r.0 ds x e) d ds) (leads_step (λ x. leads_to r.0 ds x e) d m.0 ds (at_in ds k m.0 m.1) (sym (edge_is n k d m.0 a m.1) ∙ p.0) r.1))
+
+  leads_way : (l n j : ℕ) (d e : Decl) → At ds n d → At ds j e → leads_to l ds d e ≡ true → HasWay (graph_of ds) n j
+  leads_way zero n j d e a b h = ([], edge_is n j d e a b ∙ h)
+  leads_way (suc l) n j d e a b h =
       either (uses_one_of d e) (leads_by (λ x. leads_to l ds x e) d ds) h
-      (λ u. use_way p q d e a b u)
+      (λ u. ([], edge_is n j d e a b ∙ u))
       (λ k. let s = step_of (λ x. leads_to l ds x e) d ds k in
       let m = in_at ds s.by s.is_in in
-      let v = use_way p m.0 d s.by a m.1 s.is_used in
-      let w = leads_way l m.0 q s.by e m.1 b s.goes_on in
-      (v.0 ++ node_of (length ds) m.0 s.by ∷ w.0, way_then (graph_of ds) v.0 w.0 _ (node_of (length ds) m.0 s.by) _ v.1 w.1))
+      let w = leads_way l m.0 j s.by e m.1 b s.goes_on in
+      (m.0 ∷ w.0, and_true (is_among m.0 (row (graph_of ds) n)) (is_way (graph_of ds) m.0 w.0 j) (edge_is n m.0 d s.by a m.1 ∙ s.is_used) w.1))
 
-  -- a declaration reaches another where there is a way
-  pub way_reaches : (p q : ℕ) (d e : Decl) → At ds p d → At ds q e →
-      HasWay (graph_of ds) (node_of (length ds) p d) (node_of (length ds) q e) → reaches ds d e ≡ true
-  way_reaches p q d e a b w = short ds d e (at_in ds p d a) (way_leads w.0 p q d e a b w.1)
+  -- a declaration reaches itself where there is a way back
+  pub way_reaches : (n : ℕ) (d : Decl) → At ds n d → HasWay (graph_of ds) n n → reaches_itself ds d ≡ true
+  way_reaches n d a w = short ds d d (at_in ds n d a) (way_leads w.0 n n d d a a w.1)
 
-  pub reaches_way : (p q : ℕ) (d e : Decl) → At ds p d → At ds q e → reaches ds d e ≡ true →
-      HasWay (graph_of ds) (node_of (length ds) p d) (node_of (length ds) q e)
-  reaches_way p q d e a b h = leads_way (length ds) p q d e a b h
-
-  -- ---- what types and storage reach
-
-  some_at : (xs : List Decl) (n : ℕ) → n < length xs → (d : Decl) × At xs n d
-  some_at [] n l = absurd (omega (arith, l))
-  some_at (x ∷ xs) zero l = (x, refl)
-  some_at (x ∷ xs) (suc n) l = some_at xs n (omega (arith, l))
-
-  -- a node is reached from that of a type or of storage
-  abbrev pub FromPlain : ℕ → Type 0
-  FromPlain k = (s : ℕ) × (length ds ≤ s) × (s < 2 * length ds) × HasWay (graph_of ds) s k
-
-  pub from_plain : (q : ℕ) (e : Decl) → At ds q e → FromPlain (node_of (length ds) q e) → any_reaches ds ds e ≡ true
-  from_plain q e b r =
-      let p = r.0 - length ds in
-      let l = r.1 in
-      let u = r.2 in
-      let z : r.0 ≡ length ds + p = omega (arith, l) in
-      let d = some_at ds p (omega (arith, u, l)) in
-      by p d.0 (two_kinds d.0) d.1 (subst (λ s. HasWay (graph_of ds) s (node_of (length ds) q e)) z r.3)
-    where
-      any : (xs : List Decl) (d : Decl) → In d xs → is_func d ≡ false → reaches ds d e ≡ true → any_reaches ds xs e ≡ true
-      any [] d i h k = absurd i
-      any (x ∷ xs) d (inl s) h k =
-          or_first (not (is_func x) && reaches ds x e) (any_reaches ds xs e)
-          (subst (λ y. (not (is_func y) && reaches ds y e) ≡ true) (sym s) (and_true (not (is_func d)) (reaches ds d e) (ap not h) k))
-      any (x ∷ xs) d (inr i) h k = or_second (not (is_func x) && reaches ds x e) (any_reaches ds xs e) (any xs d i h k)
-
-      by : (p : ℕ) (d : Decl) → (is_func d ≡ false) ⊎ ((f : Func) × (d ≡ dc.Func f)) → At ds p d →
-          HasWay (graph_of ds) (length ds + p) (node_of (length ds) q e) → any_reaches ds ds e ≡ true
-      by p d (inl h) a w =
-          let way = subst (λ s. HasWay (graph_of ds) s (node_of (length ds) q e)) (sym (plain_at p d h)) w in
-          any ds d (at_in ds p d a) h (way_reaches p q d e a b way)
-      by p d (inr f) a w = absurd
-          (no_way (graph_of ds) (length ds + p) (node_of (length ds) q e) w.0 (empty_row ds distinct p f.0 (a ∙ ap Some f.1)) w.1)
-
-  pub plain_reaches : (q : ℕ) (e : Decl) → At ds q e → any_reaches ds ds e ≡ true → FromPlain (node_of (length ds) q e)
-  plain_reaches q e b h = by ds (λ d i. i) h
-    where
-      one : (d : Decl) → In d ds → not (is_func d) ≡ true → reaches ds d e ≡ true → FromPlain (node_of (length ds) q e)
-      one d i h k =
-          let p = in_at ds d i in
-          let l = slice_get_within ds p.0 d p.1 in
-          let w = reaches_way p.0 q d e p.1 b k in (
-            length ds + p.0,
-            omega arith,
-            omega (arith, l),
-            subst (λ s. HasWay (graph_of ds) s (node_of (length ds) q e))
-                (plain_at p.0 d (not-true (is_func d) h)) w,
-          )
-
-      by : (xs : List Decl) → ((d : Decl) → In d xs → In d ds) → any_reaches ds xs e ≡ true → FromPlain (node_of (length ds) q e)
-      by [] f h = no h
-      by (x ∷ xs) f h =
-          either (not (is_func x) && reaches ds x e) (any_reaches ds xs e) h
-          (λ k. let w = both (not (is_func x)) (reaches ds x e) k in one x (f x (inl refl)) w.0 w.1)
-          (by xs (λ d i. f d (inr i)))
-
-  -- ---- each edge leads to a node
-
-  pub edges_within : (n k : ℕ) → is_among k (row (graph_of ds) n) ≡ true → k < length (graph_of ds)
-  edges_within n k h = below (places (cases_lt n (length ds)) (cases_lt n (2 * length ds)) (cases_lt n (3 * length ds)))
-    where
-      below : k < 3 * length ds → k < length (graph_of ds)
-      below l = omega (arith, l, length_graph ds distinct)
-
-      node_below : PlainNode ds distinct k ⊎ NameNode ds distinct k → k < 3 * length ds
-      node_below (inl r) = let l = slice_get_within ds r.place r.decl r.at in let i = r.is in omega (arith, l, i)
-      node_below (inr r) = let l = slice_get_within ds k (dc.Func r.func) r.at in omega (arith, l)
-
-      of_decl : (p : ℕ) (d : Decl) → At ds p d → n ≡ node_of (length ds) p d → k < 3 * length ds
-      of_decl p d a z = node_below (edge_at ds distinct p k d a (subst (λ m. is_among k (row (graph_of ds) m) ≡ true) z h))
-
-      of_plain : (p : ℕ) (d : Decl) → At ds p d → n ≡ length ds + p → k < 3 * length ds
-      of_plain p (dc.Type d) a z = of_decl p (dc.Type d) a z
-      of_plain p (dc.Storage d) a z = of_decl p (dc.Storage d) a z
-      of_plain p (dc.Func f) a z = no (sym (ap (is_among k) (ap (row (graph_of ds)) z ∙ empty_row ds distinct p f a)) ∙ h)
-
-      of_func : (p : ℕ) (d : Decl) → At ds p d → n ≡ 2 * length ds + p → k < 3 * length ds
-      of_func p (dc.Func f) a z = of_decl p (dc.Func f) a z
-      of_func p (dc.Type d) a z = no (sym (ap (is_among k) (ap (row (graph_of ds)) z ∙ third_part ds distinct p (dc.Type d) a)) ∙ h)
-      of_func p (dc.Storage d) a z = no (sym (ap (is_among k) (ap (row (graph_of ds)) z ∙ third_part ds distinct p (dc.Storage d) a)) ∙ h)
-
-      past : 3 * length ds ≤ n → k < 3 * length ds
-      past l = no (sym (ap (is_among k) (get_or_past (graph_of ds) n [] (omega (arith, l, length_graph ds distinct)))) ∙ h)
-
-      places : (n < length ds) ⊎ (length ds ≤ n) → (n < 2 * length ds) ⊎ (2 * length ds ≤ n) → (n < 3 * length ds) ⊎ (3 * length ds ≤ n) →
-          k < 3 * length ds
-      places (inl a) b c =
-          let o = name_uses ds distinct n k a h in
-          let l = slice_get_within ds o.place (dc.Func o.func) o.at in
-          let i = o.is in
-          omega (arith, l, i)
-      places (inr a) (inl b) c = let d =
-          some_at ds (n - length ds) (omega (arith, a, b)) in of_plain (n - length ds) d.0 d.1 (omega (arith, a))
-      places (inr a) (inr b) (inl c) = let d =
-          some_at ds (n - 2 * length ds) (omega (arith, b, c)) in of_func (n - 2 * length ds) d.0 d.1 (omega (arith, b))
-      places (inr a) (inr b) (inr c) = past c
+  pub reaches_way : (n : ℕ) (d : Decl) → At ds n d → reaches_itself ds d ≡ true → HasWay (graph_of ds) n n
+  reaches_way n d a h = leads_way (length ds) n n d d a a h

@@ -4,7 +4,7 @@ use Rattle.std.specs.Prelude.{◌==◌}
 use Rattle.std.proofs.lemmas.Bool.{eqb-true}
 use Rattle.std.proofs.lemmas.List.{append-nil}
 use Rattle.asl_turns.specs.Graphs.{Graph, row, has_mark, all_marked, is_among}
-use Rattle.asl_names.specs.private.Ways.{IsListed, is_way, HasWay, MarkedMore, Goes, FoundOne, MarkedTo, ClosedTo, HasWayFrom, Reached, StartedTo}
+use Rattle.asl_names.specs.private.Ways.{IsListed, is_way, HasWay, MarkedMore, Goes, FoundOne, MarkedTo, ClosedTo, Reached}
 use Rattle.asl_turns.proofs.Marks.{among_marked, marked_more, mark_kept}
 use Rattle.asl_rules.proofs.basics.Tests.{no, both, and_true, either, or_first, or_second}
 
@@ -82,38 +82,16 @@ goes_more nodes ns all n w h = (
     by k (inl q) = w.2 k q
     by k (inr q) = either (n == k) false q (λ z. subst (λ m. is_among m ns ≡ true) (eqb-true n k z) h) (λ z. no z)
 
--- what holds of all that was found, and of what these use, holds of all that is found then
-goes_all : (P : ℕ → Type 0) (nodes ns all : List ℕ) → ((k : ℕ) → is_among k nodes ≡ true → P k) → ((k : ℕ) → is_among k ns ≡ true → P k) →
-    Goes nodes ns all → (k : ℕ) → is_among k all ≡ true → P k
-goes_all P nodes ns all f g q k i = by (among_split k nodes q.0 (subst (λ l. is_among k l ≡ true) q.1 i))
+-- what is found by a way, and then what those use
+pub goes_reached : (g : Graph) (start node : ℕ) (nodes all : List ℕ) → ((k : ℕ) → is_among k nodes ≡ true → HasWay g start k) → HasWay g start node → Goes nodes (row g node) all → (k : ℕ) → is_among k all ≡ true → HasWay g start k
+goes_reached g start node nodes all f w q k i = by (among_split k nodes q.0 (subst (λ l. is_among k l ≡ true) q.1 i))
   where
-    by : (is_among k nodes ≡ true) ⊎ (is_among k q.0 ≡ true) → P k
+    by : (is_among k nodes ≡ true) ⊎ (is_among k q.0 ≡ true) → HasWay g start k
     by (inl a) = f k a
-    by (inr a) = g k (q.2 k a)
+    by (inr a) = way_on g start node k w (q.2 k a)
 
--- what those use that were found is found by a way
-pub goes_reached : (g : Graph) (from to node : ℕ) (nodes all : List ℕ) → Reached g from to nodes → HasWayFrom g from to node →
-    Goes nodes (row g node) all → Reached g from to all
-goes_reached g from to node nodes all f w =
-    goes_all (HasWayFrom g from to) nodes (row g node) all f (λ k i. (w.0, w.1, w.2, way_on g w.0 node k w.3 i))
-
--- and so is what one uses from which the walk begins
-pub goes_first : (g : Graph) (from to node : ℕ) (nodes all : List ℕ) → from ≤ node → node < to → Reached g from to nodes →
-    Goes nodes (row g node) all → Reached g from to all
-goes_first g from to node nodes all a b f =
-    goes_all (HasWayFrom g from to) nodes (row g node) all f (λ k i. (node, a, b, ([], i)))
-
-pub started_next : (g : Graph) (marks more : List Bool) (from at : ℕ) → StartedTo g marks from at → MarkedMore marks more →
-    all_marked more (row g at) ≡ true → StartedTo g more from (at + 1)
-started_next g marks more from at f m h n a b = by (below_or n at (omega (arith, b)))
-  where
-    by : (n < at) ⊎ (n ≡ at) → all_marked more (row g n) ≡ true
-    by (inl q) = marked_more marks more m (row g n) (f n a q)
-    by (inr q) = subst (λ k. all_marked more (row g k) ≡ true) (sym q) h
-
-pub started_more : (g : Graph) (marks more : List Bool) (from to : ℕ) → StartedTo g marks from to → MarkedMore marks more →
-    StartedTo g more from to
-started_more g marks more from to f m n a b = marked_more marks more m (row g n) (f n a b)
+pub goes_first : (g : Graph) (start : ℕ) (all : List ℕ) → Goes [] (row g start) all → (k : ℕ) → is_among k all ≡ true → HasWay g start k
+goes_first g start all q k i = ([], q.2 k (subst (λ l. is_among k l ≡ true) q.1 i))
 
 pub set_more : (marks : List Bool) (n : ℕ) → n < length marks → MarkedMore marks (set marks n true)
 set_more marks n l = mark_kept marks n
@@ -137,15 +115,11 @@ pub more_trans : (a b c : List Bool) → MarkedMore a b → MarkedMore b c → M
 more_trans a b c f g k h = g k (f k h)
 
 -- a mark is that of a way
-pub mark_way : (g : Graph) (from to : ℕ) (nodes : List ℕ) (marks : List Bool) → IsListed nodes marks → Reached g from to nodes →
-    (k : ℕ) → has_mark marks k ≡ true → HasWayFrom g from to k
-mark_way g from to nodes marks l r k h = r k (sym (l k) ∙ h)
+pub mark_way : (g : Graph) (start : ℕ) (nodes : List ℕ) (marks : List Bool) → IsListed nodes marks → Reached g start nodes → (k : ℕ) → has_mark marks k ≡ true → HasWay g start k
+mark_way g start nodes marks l r k h = r k (sym (l k) ∙ h)
 
-pub way_mark : (g : Graph) (from to : ℕ) (nodes : List ℕ) (marks : List Bool) (at : ℕ) → IsListed nodes marks → ClosedTo g marks nodes at →
-    length nodes ≤ at → StartedTo g marks from to → (k : ℕ) → HasWayFrom g from to k → has_mark marks k ≡ true
-way_mark g from to nodes marks at l c e s k w =
-    let way = w.3 in
-    way_marked g marks (closed_all g marks nodes at l c e) way.0 w.0 k (s w.0 w.1 w.2) way.1
+pub way_mark : (g : Graph) (start : ℕ) (nodes : List ℕ) (marks : List Bool) (at : ℕ) → IsListed nodes marks → ClosedTo g marks nodes at → length nodes ≤ at → all_marked marks (row g start) ≡ true → (k : ℕ) → HasWay g start k → has_mark marks k ≡ true
+way_mark g start nodes marks at l c e h k w = way_marked g marks (closed_all g marks nodes at l c e) w.0 start k h w.1
 
 pub marked_to_end : (marks : List Bool) (ns : List ℕ) (at : ℕ) → MarkedTo marks ns at → length ns ≤ at → all_marked marks ns ≡ true
 marked_to_end marks ns at t l = marked_to_all marks ns (λ i h. t i (omega (arith, h, l)))

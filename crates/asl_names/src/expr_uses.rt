@@ -69,7 +69,7 @@ pub(crate) fn add_expr<'a>(uses: &mut Items<Use<'a>>, e: &'a Expr) -> Result<(),
 
 /// The uses in expressions in order.
 #[cycle(uses)]
-pub(crate) fn add_exprs<'a>(uses: &mut Items<Use<'a>>, exprs: &'a [Expr]) -> Result<(), AllocError>
+fn add_exprs<'a>(uses: &mut Items<Use<'a>>, exprs: &'a [Expr]) -> Result<(), AllocError>
     ensures { OnOk result (all_uses uses.new ≡ all_uses uses.old ++ rules.joined (map rules.expr_uses exprs.now)) }
 {
     for e in exprs {
@@ -122,10 +122,7 @@ fn add_slice<'a>(uses: &mut Items<Use<'a>>, slice: &'a Slice) -> Result<(), Allo
 
 /// The uses in slices in order.
 #[cycle(uses)]
-pub(crate) fn add_slices<'a>(
-    uses: &mut Items<Use<'a>>,
-    slices: &'a [Slice],
-) -> Result<(), AllocError>
+fn add_slices<'a>(uses: &mut Items<Use<'a>>, slices: &'a [Slice]) -> Result<(), AllocError>
     ensures { OnOk result (all_uses uses.new ≡ all_uses uses.old ++ rules.joined (map rules.slice_uses slices.now)) }
 {
     for slice in slices {
@@ -155,10 +152,7 @@ fn add_pattern<'a>(uses: &mut Items<Use<'a>>, pattern: &'a Pattern) -> Result<()
 
 /// The uses in patterns in order.
 #[cycle(uses)]
-pub(crate) fn add_patterns<'a>(
-    uses: &mut Items<Use<'a>>,
-    patterns: &'a [Pattern],
-) -> Result<(), AllocError>
+fn add_patterns<'a>(uses: &mut Items<Use<'a>>, patterns: &'a [Pattern]) -> Result<(), AllocError>
     ensures { OnOk result (all_uses uses.new ≡ all_uses uses.old ++ rules.joined (map rules.pattern_uses patterns.now)) }
 {
     for pattern in patterns {
@@ -245,32 +239,6 @@ fn add_bitfields<'a>(uses: &mut Items<Use<'a>>, fields: &'a [Bitfield]) -> Resul
         add_bitfield(uses, field)?;
     }
     Ok(())
-}
-
-/// The uses in a type, if any.
-pub(crate) fn add_maybe_type<'a>(
-    uses: &mut Items<Use<'a>>,
-    ty: &'a Option<TypeExpr>,
-) -> Result<(), AllocError>
-    ensures { OnOk result (all_uses uses.new ≡ all_uses uses.old ++ rules.maybe_type_uses ty.now) }
-{
-    match ty {
-        None => Ok(()),
-        Some(ty) => add_type(uses, ty),
-    }
-}
-
-/// The uses in an expression, if any.
-pub(crate) fn add_maybe_expr<'a>(
-    uses: &mut Items<Use<'a>>,
-    e: &'a Option<Expr>,
-) -> Result<(), AllocError>
-    ensures { OnOk result (all_uses uses.new ≡ all_uses uses.old ++ rules.maybe_expr_uses e.now) }
-{
-    match e {
-        None => Ok(()),
-        Some(e) => add_expr(uses, e),
-    }
 }
 
 /// The uses in an expression.

@@ -14,10 +14,8 @@ mod listed;
 mod name_use;
 mod names;
 mod reach;
-mod stmt_uses;
-mod uses;
 
 pub use expr_uses::uses_in_expr;
+pub use graph::graph_of_decls;
 pub use library::LIBRARY;
 pub use name_use::Use;
-pub use uses::{Uses, uses_of_decls};

@@ -2,7 +2,6 @@
 
 ghost use Rattle.std.specs.Prelude.{◌≡◌};
 ghost use Rattle.asl_rules.specs.declarations.UsedNames as rules;
-ghost use Rattle.asl_rules.specs.declarations.Uses.{is_call};
 ghost use Rattle.asl_names.specs.private.UseView.{use_of};
 
 use asl_syn::token::Span;
@@ -26,17 +25,6 @@ impl<'a> Use<'a> {
             Use::Value(_, name) => name,
             Use::Subprogram(_, name) => name,
             Use::Type(name) => name,
-        }
-    }
-
-    /// Whether it is a call.
-    pub fn is_call(self) -> bool
-        ensures { result ≡ is_call (use_of self.entry) }
-    {
-        match self {
-            Use::Value(_, _) => false,
-            Use::Subprogram(_, _) => true,
-            Use::Type(_) => false,
         }
     }
 }

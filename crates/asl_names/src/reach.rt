@@ -2,7 +2,7 @@
 
 ghost use Rattle.std.specs.Prelude.{◌≡◌, ℕ, ◌<◌, [], true, false, length, IfOk, OnOk};
 ghost use Rattle.asl_turns.specs.Graphs.{has_mark, all_marked};
-ghost use Rattle.asl_names.specs.private.Ways.{room, IsListed, HasWay, HasWayFrom, HasEdges, Below, MarkedMore, Goes, FoundOne, Reached, StartedTo};
+ghost use Rattle.asl_names.specs.private.Ways.{room, IsListed, HasWay, HasEdges, Below, MarkedMore, Goes, FoundOne};
 
 use crate::listed::Listed;
 use asl_turns::{has_mark, row};
@@ -44,45 +44,21 @@ fn find_all(found: &mut Listed, nodes: &[usize]) -> Result<(), AllocError>
     Ok(())
 }
 
-/// All that is used by the nodes from a place on up to another.
-fn begin(
-    alloc: Global,
-    graph: &[Items<usize>],
-    from: usize,
-    to: usize,
-) -> Result<Listed, AllocError>
+/// The nodes that there is a way to from this one.
+fn reached_from(alloc: Global, graph: &[Items<usize>], start: usize) -> Result<Listed, AllocError>
     requires { HasEdges graph.now }
-    ensures listed { IfOk result (λ found. IsListed found.nodes found.marks) }
-    ensures count { IfOk result (λ found. length found.marks ≡ length graph.now) }
-    ensures started { IfOk result (λ found. StartedTo graph.now found.marks from to) }
-    ensures reached { IfOk result (λ found. Reached graph.now from to found.nodes) }
+    ensures way { IfOk result (λ found. (k : ℕ) → has_mark found.marks k ≡ true → HasWay graph.now start k) }
+    ensures mark { IfOk result (λ found. (k : ℕ) → HasWay graph.now start k → has_mark found.marks k ≡ true) }
 {
     let mut found = Listed::new(alloc, graph.len())?;
-    for node in from..to {
-        find_all(&mut found, row(graph, node))?;
-    }
-    Ok(found)
-}
-
-/// The nodes that there is a way to from those from a place on up to another.
-pub(crate) fn reached_from(
-    alloc: Global,
-    graph: &[Items<usize>],
-    from: usize,
-    to: usize,
-) -> Result<Items<bool>, AllocError>
-    requires { HasEdges graph.now }
-    ensures way { IfOk result (λ marks. (k : ℕ) → has_mark marks k ≡ true → HasWayFrom graph.now from to k) }
-    ensures mark { IfOk result (λ marks. (k : ℕ) → HasWayFrom graph.now from to k → has_mark marks k ≡ true) }
-{
-    let mut found = begin(alloc, graph, from, to)?;
+    find_all(&mut found, row(graph, start))?;
     let mut at = 0;
     while at < found.nodes.len() {
         let node = found.nodes.as_slice()[at];
         find_all(&mut found, row(graph, node))?;
         at += 1;
     }
-    Ok(found.marks)
+    Ok(found)
 }
 
 /// Whether there is a way from a node back to it.
@@ -91,11 +67,10 @@ pub(crate) fn reaches_itself(
     graph: &[Items<usize>],
     node: usize,
 ) -> Result<bool, AllocError>
-    requires edges { HasEdges graph.now }
-    requires within { node < length graph.now }
+    requires { HasEdges graph.now }
     ensures way { IfOk result (λ back. back ≡ true → HasWay graph.now node node) }
     ensures none { IfOk result (λ back. HasWay graph.now node node → back ≡ true) }
 {
-    let marks = reached_from(alloc, graph, node, node + 1)?;
-    Ok(has_mark(marks.as_slice(), node))
+    let found = reached_from(alloc, graph, node)?;
+    Ok(has_mark(found.marks.as_slice(), node))
 }

@@ -1,18 +1,13 @@
 -- What declarations use and bring, scopes, and whole programs with their one fault.
 pub mod UsedNames
-pub mod StmtUses
 pub mod Routines
 pub mod Names
 pub mod Scopes
 pub mod Layouts
 pub mod Uses
 pub mod Barred
-pub mod ImpureCalls
-pub mod Environments
 pub mod Constants
-pub mod InitialValues
 pub mod Declarations
-pub mod Signatures
 pub mod Turns
 pub mod WrittenOut
 pub mod Keys

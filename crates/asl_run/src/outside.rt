@@ -1,6 +1,6 @@
 //! Calls from outside a run.
 ghost use Rattle.std.specs.Prelude.{◌≡◌, [], map, option_map};
-ghost use Rattle.asl_rules.specs.runs.Limits.{most_open};
+ghost use Rattle.asl_rules.specs.runs.Machines.{most_open};
 ghost use Rattle.asl_rules.specs.private.TypedMeaning.{run_with, tree_call};
 ghost use Rattle.asl_tree.specs.Funcs.{func_of};
 ghost use Rattle.asl_value.specs.View.{value_of};

@@ -7,7 +7,6 @@ ghost use Rattle.asl_rules.specs.declarations.Scopes as scopes;
 ghost use Rattle.asl_rules.specs.declarations.Scopes.{with_entry};
 ghost use Rattle.asl_rules.specs.types.Types as types;
 ghost use Rattle.asl_types.specs.private.Answers.{Met};
-ghost use Rattle.asl_types.specs.private.Fronts.{IsFront};
 ghost use Rattle.asl_types.specs.View.{parts_of};
 ghost use Rattle.asl_blocks.specs.private.Walks as walks;
 ghost use Rattle.asl_blocks.specs.private.Walks.{after, binding};
@@ -30,8 +29,7 @@ pub(crate) fn declare_local<'a>(
     ty: Ty,
     counted: Option<Counted>,
 ) -> Result<(), Refused>
-    ensures rule { Met (λ _. names.new) result (Ok (with_entry (rules.declared kind name.now ty counted) names.old)) }
-    ensures front { IsFront names.old names.new }
+    ensures { Met (λ _. names.new) result (Ok (with_entry (rules.declared kind name.now ty counted) names.old)) }
 {
     match kind {
         LocalKind::Let => names.declare_fixed(name, ty, counted),
@@ -105,7 +103,6 @@ fn has_no_more(as_many: bool, parts: &[Ty]) -> bool
 }
 
 /// One more binder of a part of this type: T01 where its name is visible.
-#[tactic(auto, using(asl_types::proofs::FrontLemmas::front_first))]
 fn declare_binder<'a>(
     alloc: Global,
     names: &mut Scope<'a>,
@@ -113,8 +110,7 @@ fn declare_binder<'a>(
     ty: Ty,
     binder: &'a Binder,
 ) -> Result<(), Refused>
-    ensures rule { Met (λ _. names.new) result (walks.binder_declared kind ty binder.now names.old) }
-    ensures front { IsFront names.old names.new }
+    ensures { Met (λ _. names.new) result (walks.binder_declared kind ty binder.now names.old) }
 {
     match binder {
         Binder::Bound(name) => {
@@ -130,7 +126,6 @@ fn declare_binder<'a>(
 }
 
 /// Binders in order with the types of the parts: T01 at the first whose name is visible. Whether there are as many of both.
-#[tactic(auto, using(asl_types::proofs::FrontLemmas::front_first, asl_types::proofs::FrontLemmas::front_then))]
 fn declare_binders<'a>(
     alloc: Global,
     names: &mut Scope<'a>,
@@ -139,8 +134,7 @@ fn declare_binders<'a>(
     written: &Option<Ty>,
     parts: &[Ty],
 ) -> Result<bool, Refused>
-    ensures rule { Met (λ as_many. (names.new, as_many)) result (walks.parts_walk binders.now kind written.now (parts_of parts.now) names.old) }
-    ensures front { IsFront names.old names.new }
+    ensures { Met (λ as_many. (names.new, as_many)) result (walks.parts_walk binders.now kind written.now (parts_of parts.now) names.old) }
 {
     let mut rest = parts;
     let mut as_many = true;
@@ -163,8 +157,7 @@ pub(crate) fn declare_parts<'a>(
     written: &Option<Ty>,
     ty: &Ty,
 ) -> Result<bool, Refused>
-    ensures rule { Met (λ as_many. (names.new, as_many)) result (walks.binders_walk binders.now kind written.now (types.tuple_parts ty.now) names.old) }
-    ensures front { IsFront names.old names.new }
+    ensures { Met (λ as_many. (names.new, as_many)) result (walks.binders_walk binders.now kind written.now (types.tuple_parts ty.now) names.old) }
 {
     match tuple_parts(ty) {
         None => {

@@ -4,7 +4,6 @@ ghost use Rattle.std.specs.Prelude.{◌≡◌, length, IfOk, Ok};
 ghost use Rattle.asl_rules.specs.statements.Locals as rules;
 ghost use Rattle.asl_rules.specs.Tests.{Tests};
 ghost use Rattle.asl_types.specs.private.Answers.{Met};
-ghost use Rattle.asl_types.specs.private.Fronts.{IsFront};
 ghost use Rattle.asl_types.specs.Suits.{Suits};
 ghost use Rattle.asl_rules.specs.runs.Trees as trees;
 ghost use Rattle.asl_tree.specs.View.{typed_of, tree_of};
@@ -125,7 +124,6 @@ fn type_declared(alloc: Global, kind: LocalKind, d: &Initialised) -> Result<Ty, 
 }
 
 /// A declaration of one name: T01 where it is visible.
-#[tactic(auto, using(asl_types::proofs::FrontLemmas::front_first))]
 fn declare_one<'a>(
     names: &mut Scope<'a>,
     body: &Body,
@@ -133,8 +131,7 @@ fn declare_one<'a>(
     name: &'a Ident,
     d: Initialised,
 ) -> Result<Done, Refused>
-    ensures rule { (t : Tests) → Suits t → Met (done_of names.new) result (rules.one_declared t declaration.now.span declaration.now.kind name.now declaration.now.value.now (initialised_of d) (body_of names.old body.now).scope) }
-    ensures front { IsFront names.old names.new }
+    ensures { (t : Tests) → Suits t → Met (done_of names.new) result (rules.one_declared t declaration.now.span declaration.now.kind name.now declaration.now.value.now (initialised_of d) (body_of names.old body.now).scope) }
 {
     let text = name.text.as_slice();
     if !names.is_free(text) {
@@ -171,8 +168,7 @@ fn declare_several<'a>(
     binders: &'a [Binder],
     d: Initialised,
 ) -> Result<Done, Refused>
-    ensures rule { Met (done_of names.new) result (walks.several_walk declaration.now.span declaration.now.kind binders.now (initialised_of d) (body_of names.old body.now).scope) }
-    ensures front { IsFront names.old names.new }
+    ensures { Met (done_of names.new) result (walks.several_walk declaration.now.span declaration.now.kind binders.now (initialised_of d) (body_of names.old body.now).scope) }
 {
     let alloc = body.alloc;
     let as_many = declare_parts(
@@ -193,15 +189,13 @@ fn declare_several<'a>(
 }
 
 /// A declaration whose initialiser was typed.
-#[tactic(auto, using(asl_types::proofs::FrontLemmas::front_first))]
 fn declare<'a>(
     names: &mut Scope<'a>,
     body: &Body,
     declaration: &Declaration<'a>,
     d: Initialised,
 ) -> Result<Done, Refused>
-    ensures rule { (t : Tests) → Suits t → Met (done_of names.new) result (walks.bound_walk t declaration.now.span declaration.now.kind declaration.now.bind.now declaration.now.value.now (initialised_of d) (body_of names.old body.now).scope) }
-    ensures front { IsFront names.old names.new }
+    ensures { (t : Tests) → Suits t → Met (done_of names.new) result (walks.bound_walk t declaration.now.span declaration.now.kind declaration.now.bind.now declaration.now.value.now (initialised_of d) (body_of names.old body.now).scope) }
 {
     match declaration.bind {
         Bind::Single(Binder::Bound(name)) => declare_one(names, body, declaration, name, d),
@@ -213,24 +207,20 @@ fn declare<'a>(
 }
 
 /// A declaration with an initialiser: the fit, then the names, then the count.
-#[tactic(auto, using(asl_types::proofs::FrontLemmas::front_first))]
 pub fn check_bind<'a>(
     names: &mut Scope<'a>,
     body: &Body,
     declaration: &Declaration<'a>,
 ) -> Result<Done, Refused>
-    ensures rule { (t : Tests) → Suits t → Met (done_of names.new) result (walks.bind_walk t declaration.now.span declaration.now.kind declaration.now.bind.now declaration.now.ty.now declaration.now.value.now (body_of names.old body.now).scope) }
-    ensures front { IsFront names.old names.new }
+    ensures { (t : Tests) → Suits t → Met (done_of names.new) result (walks.bind_walk t declaration.now.span declaration.now.kind declaration.now.bind.now declaration.now.ty.now declaration.now.value.now (body_of names.old body.now).scope) }
 {
     let d = type_initialiser(names, body, declaration.ty, declaration.value)?;
     declare(names, body, declaration, d)
 }
 
 /// Names of one type, without an initialiser: T01 at the first that is visible.
-#[tactic(auto, using(asl_types::proofs::FrontLemmas::front_first, asl_types::proofs::FrontLemmas::front_then))]
 fn declare_vars<'a>(names: &mut Scope<'a>, idents: &'a [Ident], ty: &Ty) -> Result<(), Refused>
-    ensures rule { Met (λ _. names.new) result (rules.names_rule idents.now ty.now names.old) }
-    ensures front { IsFront names.old names.new }
+    ensures { Met (λ _. names.new) result (rules.names_rule idents.now ty.now names.old) }
 {
     for name in idents {
         let text = name.text.as_slice();
@@ -243,7 +233,6 @@ fn declare_vars<'a>(names: &mut Scope<'a>, idents: &'a [Ident], ty: &Ty) -> Resu
 }
 
 /// A declaration without an initialiser.
-#[tactic(auto, using(asl_types::proofs::FrontLemmas::front_first))]
 pub fn check_vars<'a>(
     names: &mut Scope<'a>,
     body: &Body,
@@ -251,8 +240,7 @@ pub fn check_vars<'a>(
     idents: &'a [Ident],
     ty: &TypeExpr,
 ) -> Result<Done, Refused>
-    ensures rule { (t : Tests) → Suits t → Met (done_of names.new) result (rules.vars_rule t span idents.now ty.now (body_of names.old body.now).scope) }
-    ensures front { IsFront names.old names.new }
+    ensures { (t : Tests) → Suits t → Met (done_of names.new) result (rules.vars_rule t span idents.now ty.now (body_of names.old body.now).scope) }
 {
     let written = type_written(body.alloc, context(names, body), ty, false)?;
     declare_vars(names, idents, &written.ty)?;

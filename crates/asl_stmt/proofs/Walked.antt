@@ -1,5 +1,6 @@
 -- The walks over statements are the rules, and the names after statements begin with those before.
-use Rattle.std.proofs.Common.{◌≡◌, Bool, true, List, [], ◌∷◌, ◌++◌, map, Option, Some, None, Result, Ok, Err, refl, sym, ap, ◌∙◌, append_assoc}
+use Rattle.std.proofs.Common.{◌≡◌, Bool, true, List, [], ◌∷◌, ◌++◌, length, take, map, Option, Some, None, Result, Ok, Err, refl, sym, ap, ◌∙◌, append_assoc}
+use Rattle.std.proofs.Math.Seq.{take-append_seam}
 use Rattle.asl_syn.specs.declared.token.Span.{Span}
 use Rattle.asl_syn.specs.declared.code.Fault.{Fault}
 use Rattle.asl_syn.specs.declared.code.StaticCode.TheVariants.{T02, T05, T21}
@@ -29,6 +30,7 @@ use Rattle.asl_rules.specs.expressions.Exprs.{typed, matches}
 use Rattle.asl_rules.specs.statements.Acting.{Done, Listed, LastListed, FoundStmt, FoundOtherwise, done, listed, ended_in, in_order, block, last_block, condition, operand_of}
 use Rattle.asl_rules.specs.statements.Branches.{FoundBranch, FoundAlternative, FoundCatcher, TypedBranch, TypedAlternative, TypedCatcher, branch_rule, branches, branch_conditions, branch_effects, branch_effect, branch_trees, branching, if_rule, alternatives, alternative_rule, all_patterns, where_rule, where_condition, where_conditions, effect_of, tree_in, alternative_effects, alternative_trees, choosing, case_rule, limit_typed, index_rule, index_type, with_index, for_ended, for_rule, while_ended, while_rule, repeat_ended, repeat_rule, is_exception, with_caught, catcher_rule, catchers, catcher_effects, catcher_trees, try_ended, try_rule}
 use Rattle.asl_rules.specs.statements.Stmts.{StmtOf, Printed, printed, printing, text_first, value_first, items_rule, print_rule, stmt_layer_rule, branch_found, alternative_found, catcher_found, otherwise_found, found_stmt}
+use Rattle.asl_rules.proofs.scopes.Longer.{list_longer}
 use Rattle.asl_shape.specs.View.{patterns_from}
 use Rattle.asl_tree.specs.Acts.{acts_from, branches_from, alternatives_from, catchers_from}
 use Rattle.asl_blocks.specs.private.Walks as walks
@@ -363,3 +365,9 @@ listed_by B (s ∷ ss) l =
 
 pub in_order_is : (B : Body) (ss : List FoundStmt) (k : Effect) → in_order ss k B ≡ (after (stmt_step B) ss (listing B.scope.names k []) >>= λ x. Ok (listed x.names x.effect (acts_from x.acts)))
 in_order_is B ss k = sym (then_itself (in_order ss k B)) ∙ listed_by B ss (listing B.scope.names k [])
+
+-- the names before stand at the beginning of those after
+pub cut_back : (t : Tests) (ss : List Stmt) (k : Effect) (B : Body) (l : Listed) → in_order (map (walk_stmt t) ss) k B ≡ Ok l → take (length B.scope.names) l.names ≡ B.scope.names
+cut_back t ss k B l h =
+    let more = list_longer t ss k B l (list_is t ss k B ∙ h) in
+    ap (take (length B.scope.names)) more.is ∙ take-append_seam B.scope.names more.more

@@ -3,7 +3,6 @@
 ghost use Rattle.std.specs.Prelude.{◌≡◌};
 ghost use Rattle.asl_rules.specs.Tests.{Tests};
 ghost use Rattle.asl_types.specs.private.Answers.{Met};
-ghost use Rattle.asl_types.specs.private.Fronts.{IsFront};
 ghost use Rattle.asl_types.specs.Suits.{Suits};
 ghost use Rattle.asl_blocks.specs.private.Blocks.{Blocks};
 ghost use Rattle.asl_blocks.specs.private.Sizes.{stmt_size};
@@ -28,15 +27,13 @@ use asl_types::Scope;
 
 /// A statement: the names that are visible after it, its typed tree and its effect. The lists inside it are checked by the
 /// function that is given.
-#[tactic(auto, using(asl_types::proofs::FrontLemmas::front_first, asl_types::proofs::FrontLemmas::front_same))]
 pub(crate) fn check_node<'a, L: Fn(&mut Scope<'a>, &Body, &'a [Stmt]) -> Result<Listed, Refused>>(
     here: &Within<'a, L>,
     names: &mut Scope<'a>,
     body: &Body,
 ) -> Result<Done, Refused>
     requires blocks { Blocks (stmt_size here.now.stmt.now) (L.pre here.now.list) (L.post here.now.list) }
-    ensures rule { (t : Tests) → Suits t → Met (done_of names.new) result (walk_stmt t here.now.stmt.now (body_of names.old body.now)) }
-    ensures front { IsFront names.old names.new }
+    ensures { (t : Tests) → Suits t → Met (done_of names.new) result (walk_stmt t here.now.stmt.now (body_of names.old body.now)) }
 {
     match here.stmt {
         Stmt::Pass(span) => Ok(simply(Simple::Pass(*span), Effect::Pure)),

@@ -1,5 +1,5 @@
 -- The signatures of one name, each behind the next older: the last that has a name, and the overload that a call chooses, over the first so many signatures.
-use Rattle.std.proofs.Common.{◌≡◌, ℕ, zero, suc, ◌+◌, ◌<◌, ◌≤◌, Bool, true, false, cond, ◌&&◌, Option, Some, None, option_map, ◌⊎◌, inl, inr, List, [], ◌∷◌, ◌++◌, length, get_or, set, take, refl, sym, ap, subst, ◌∙◌, arith}
+use Rattle.std.proofs.Common.{◌≡◌, ℕ, zero, suc, ◌+◌, ◌<◌, ◌≤◌, Bool, true, false, cond, ◌&&◌, Option, Some, None, ◌⊎◌, inl, inr, List, [], ◌∷◌, ◌++◌, length, get_or, take, refl, sym, ap, subst, ◌∙◌, arith}
 use Rattle.std.specs.Str.{bytes_eq}
 use Rattle.std.specs.Cmp.Lexicographic.{nat_list_eq_equiv, bytes_decides}
 use Rattle.std.specs.Prelude.{slice_get, Vec}
@@ -275,51 +275,3 @@ one_linked fs gs older more es ns f k last n h key there count grown kept made =
             ∙ get_end older last
             ∙ ap Some (there ∙ h.newest k.items ∙ ap (λ m. last_of m fs) (key ∙ ap (λ (x : Signature). x.name) is_f))
             ∙ ap (λ l. Some (last_of g.name l)) (sym (take_all i fs past) ∙ sym (take_first fs f i (omega (arith, at_last))) ∙ ap (take i) (sym grown))
-
--- ---- another signature in the place of one of the same name
-
-same_whole : (n : ℕ) (o : Option ℕ) (name : List ℕ) (fs : List Signature) (k : ℕ) (f : Signature) →
-    option_map (λ (g : Signature). g.name) (slice_get fs k) ≡ Some f.name → last_from n o name (set fs k f) ≡ last_from n o name fs
-same_whole n o name [] k f h = refl
-same_whole n o name (g ∷ fs) zero f h =
-    let q : g.name ≡ f.name = cc h in
-    ap (λ m. last_from (suc n) (cond (bytes_eq m name) (Some n) o) name fs) (sym q)
-same_whole n o name (g ∷ fs) (suc k) f h = same_whole (suc n) (cond (bytes_eq g.name name) (Some n) o) name fs k f h
-
-same_front : (n : ℕ) (o : Option ℕ) (name : List ℕ) (fs : List Signature) (k : ℕ) (f : Signature) (i : ℕ) →
-    option_map (λ (g : Signature). g.name) (slice_get fs k) ≡ Some f.name → last_from n o name (take i (set fs k f)) ≡ last_from n o name (take i fs)
-same_front n o name fs k f zero h = refl
-same_front n o name [] k f (suc i) h = refl
-same_front n o name (g ∷ fs) zero f (suc i) h =
-    let q : g.name ≡ f.name = cc h in
-    ap (λ m. last_from (suc n) (cond (bytes_eq m name) (Some n) o) name (take i fs)) (sym q)
-same_front n o name (g ∷ fs) (suc k) f (suc i) h = same_front (suc n) (cond (bytes_eq g.name name) (Some n) o) name fs k f i h
-
--- what stood there before had the same name
-record Stood (fs : List Signature) (i : ℕ) (g : Signature) : Type 0 where
-  pub old : Signature
-  pub at : slice_get fs i ≡ Some old
-  pub named : old.name ≡ g.name
-
-stood : (fs : List Signature) (k : ℕ) (f : Signature) (i : ℕ) (g : Signature) → option_map (λ (x : Signature). x.name) (slice_get fs k) ≡ Some f.name →
-    slice_get (set fs k f) i ≡ Some g → Stood fs i g
-stood [] k f i g h e = cc e
-stood (x ∷ fs) zero f zero g h e = record { old = x; at = refl; named = cc (h, e) }
-stood (x ∷ fs) zero f (suc i) g h e = record { old = g; at = e; named = refl }
-stood (x ∷ fs) (suc k) f zero g h e = record { old = g; at = e; named = refl }
-stood (x ∷ fs) (suc k) f (suc i) g h e = let r = stood fs k f i g h e in record { old = r.old; at = r.at; named = r.named }
-
-set_length : (fs : List Signature) (k : ℕ) (f : Signature) → length (set fs k f) ≡ length fs
-set_length [] k f = refl
-set_length (g ∷ fs) zero f = refl
-set_length (g ∷ fs) (suc k) f = ap suc (set_length fs k f)
-
-pub put_linked : {Z : Type 0} (fs : List Signature) (older : List (Option ℕ)) (es : List (Vec ℕ Z × ℕ)) (k : ℕ) (f : Signature) →
-    option_map (λ (g : Signature). g.name) (slice_get fs k) ≡ Some f.name → IsLinked fs older es → IsLinked (set fs k f) older es
-put_linked fs older es k f h l = record {
-  many = l.many ∙ sym (set_length fs k f);
-  newest = λ name. l.newest name ∙ sym (same_whole 0 None name fs k f h);
-  links = λ i g e.
-      let r = stood fs k f i g h e in
-      l.links i r.old r.at ∙ ap Some (ap (λ m. last_of m (take i fs)) r.named ∙ sym (same_front 0 None g.name fs k f i h));
-}

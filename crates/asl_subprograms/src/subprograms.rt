@@ -1,6 +1,6 @@
 //! Subprograms: what calls need of each, and the one that a call chooses.
 
-ghost use Rattle.std.specs.Prelude.{◌≡◌, ℕ, ◌++◌, [], ◌∷◌, Some, length, take, slice_get, slice_set, option_map, IfOk, OnOk, OnErr};
+ghost use Rattle.std.specs.Prelude.{◌≡◌, ℕ, ◌++◌, [], ◌∷◌, Some, length, take, slice_get, option_map, IfOk, OnOk, OnErr};
 ghost use Rattle.asl_subprograms.specs.private.Chains.{last_of, or_found, taken_by};
 ghost use Rattle.asl_rules.specs.declarations.Scopes as rules;
 ghost use Rattle.asl_rules.specs.types.Types as types;
@@ -55,45 +55,6 @@ impl Param {
     {
         self.ty.as_ref()
     }
-
-    /// The same parameter.
-    pub fn copy(&self) -> Result<Param, AllocError>
-        ensures { IfOk result (λ p. p ≡ self.now) }
-    {
-        Ok(Param {
-            atom: self.atom,
-            ty: copy_maybe(&self.ty)?,
-        })
-    }
-}
-
-fn copy_maybe(ty: &Option<Ty>) -> Result<Option<Ty>, AllocError>
-    ensures { IfOk result (λ copied. copied ≡ ty.now) }
-{
-    match ty {
-        None => Ok(None),
-        Some(ty) => Ok(Some(ty.copy()?)),
-    }
-}
-
-fn copy_params(alloc: Global, params: &[Param]) -> Result<Items<Param>, AllocError>
-    ensures { IfOk result (λ copies. copies ≡ params.now) }
-{
-    let mut copies = Items::new(alloc);
-    for p in params {
-        copies.push(p.copy()?)?;
-    }
-    Ok(copies)
-}
-
-fn copy_types(alloc: Global, types: &[Ty]) -> Result<Items<Ty>, AllocError>
-    ensures { IfOk result (λ copies. copies ≡ types.now) }
-{
-    let mut copies = Items::new(alloc);
-    for ty in types {
-        copies.push(ty.copy()?)?;
-    }
-    Ok(copies)
 }
 
 /// What calls need of a subprogram. It is a procedure where it has no result.
@@ -182,20 +143,6 @@ impl Signature {
         ensures { result ≡ self.now.limit }
     {
         self.limit
-    }
-
-    /// The same signature.
-    pub fn copy(&self, alloc: Global) -> Result<Signature, AllocError>
-        ensures { IfOk result (λ f. f ≡ self.now) }
-    {
-        Ok(Signature {
-            name: self.name.share()?,
-            class: self.class,
-            params: copy_params(alloc, self.params.as_slice())?,
-            formals: copy_types(alloc, self.formals.as_slice())?,
-            result: copy_maybe(&self.result)?,
-            limit: self.limit,
-        })
     }
 }
 
@@ -326,15 +273,6 @@ impl Subprograms {
                 Err(AllocError)
             }
         }
-    }
-
-    /// The subprogram of this number has another signature from now on, with the same name.
-    #[tactic(auto, using(crate::proofs::ChainLemmas::put_linked))]
-    pub fn put(&mut self, number: usize, signature: Signature)
-        requires { option_map (λ f. f.name) (slice_get self.old number) ≡ Some signature.name }
-        ensures { self.new ≡ slice_set self.old number signature }
-    {
-        self.signatures.set(number, signature);
     }
 
     /// The signatures in source order.

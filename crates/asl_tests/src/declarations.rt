@@ -3,8 +3,6 @@ use asl_decl::Table;
 use asl_syn::code::{Fault, Refused, StaticCode};
 use asl_syn::token::Span;
 use asl_syn::tree::{Decl, Expr, Func, Ident, Qualifier, StorageDecl, StorageKind, Text, TypeExpr};
-use asl_tree::act::TreeFunc;
-use asl_tree::body::TreeBody;
 use sqlite_items::Items;
 use std::alloc::{AllocError, Global};
 
@@ -75,31 +73,9 @@ fn alone(alloc: Global) -> Result<Items<Decl>, AllocError> {
     Ok(decls)
 }
 
-/// A subprogram whose body does nothing.
-fn empty(alloc: Global, f: &Func) -> Result<TreeFunc, AllocError> {
-    Ok(TreeFunc {
-        span: f.name.span,
-        params: Items::new(alloc),
-        formals: Items::new(alloc),
-        result: None,
-        limit: 256,
-        body: TreeBody::new(Items::new(alloc))?,
-    })
-}
-
-/// What these declarations bring, of which each body does nothing.
-fn judged(alloc: Global, decls: &[Decl]) -> Result<Table<'_>, Refused> {
-    let mut table = Table::begin(alloc, decls)?;
-    while let Some(id) = table.next_body()? {
-        let body = empty(alloc, table.func(id))?;
-        table.body(id, Ok(body));
-    }
-    table.finish()
-}
-
 /// The fault of these declarations.
 fn fault_of(alloc: Global, decls: &[Decl]) -> Option<Fault> {
-    match judged(alloc, decls).err() {
+    match Table::build(alloc, decls).err() {
         Some(Refused::At(fault)) => Some(fault),
         _ => None,
     }
@@ -107,8 +83,8 @@ fn fault_of(alloc: Global, decls: &[Decl]) -> Option<Fault> {
 
 /// Whether these declarations bring a subprogram first that has no result.
 fn is_without_result(alloc: Global, decls: &[Decl]) -> bool {
-    match judged(alloc, decls) {
-        Ok(table) => match table.so_far.subs.signatures().split_first() {
+    match Table::build(alloc, decls) {
+        Ok(table) => match table.subs.signatures().split_first() {
             Some((f, _)) => f.result().is_none(),
             None => false,
         },
@@ -117,21 +93,17 @@ fn is_without_result(alloc: Global, decls: &[Decl]) -> bool {
 }
 
 #[test]
-fn bodies_are_judged_by_the_caller(rt: HostRuntime) {
-    let alloc = rt.alloc();
-    let decls = alone(alloc).expect(&rt, "memory");
-    assert!(rt; is_without_result(alloc, decls.as_slice()));
-}
-
-/// What an initialiser calls is judged first, and then it is seen that a procedure has no value.
-#[test]
-fn storage_has_no_value_of_a_procedure(rt: HostRuntime) {
+fn storage_calls_nothing(rt: HostRuntime) {
     let alloc = rt.alloc();
     let want = Fault {
-        code: StaticCode::T18,
+        code: StaticCode::T04,
         inner: None,
         span: at(4),
     };
-    let decls = calling(alloc, None).expect(&rt, "memory");
-    assert!(rt; fault_of(alloc, decls.as_slice()) == Some(want));
+    for ty in [None, Some("X")] {
+        let decls = calling(alloc, ty).expect(&rt, "memory");
+        assert!(rt; fault_of(alloc, decls.as_slice()) == Some(want));
+    }
+    let decls = alone(alloc).expect(&rt, "memory");
+    assert!(rt; is_without_result(alloc, decls.as_slice()));
 }

@@ -11,10 +11,8 @@ use Rattle.asl_rules.specs.declared.entry.Entry.{Entry}
 use Rattle.asl_rules.specs.declared.entry.Entry.TheVariants as entry
 use Rattle.asl_rules.specs.declarations.Turns.{globals_rule}
 use Rattle.asl_rules.specs.declarations.Names.{names_rule, all_declared}
-use Rattle.asl_rules.specs.declarations.Environments.{funcs_of}
-use Rattle.asl_rules.specs.declarations.Signatures.{signatures_rule, signatures, overloads_rule, bodies_rule}
-use Rattle.asl_rules.specs.declarations.Programs.{Entries, entries, entry_rule, entry_from, entry_found, entry16_rule, is_main, is_decode, is_decode16, main_rule}
-use Rattle.asl_rules.specs.declarations.Environments.{origin}
+use Rattle.asl_rules.specs.declarations.Programs.{funcs_of, signatures_rule, signatures, overloads_rule, bodies_rule}
+use Rattle.asl_rules.specs.declarations.Programs.{Entries, entries, entry_rule, entry_from, entry_found, entry16_rule, is_main, is_decode, is_decode16, main_rule, origin}
 use Rattle.asl_rules.specs.declarations.Programs.{verdict, Accepted, accepted}
 use Rattle.asl_rules.specs.declarations.Scopes.{Entry as Visible, Signature}
 use Rattle.asl_rules.specs.declarations.Uses.{cycles_rule}

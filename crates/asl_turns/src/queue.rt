@@ -56,17 +56,6 @@ fn no_watchers(alloc: Global, count: usize) -> Result<Vec<Items<usize>>, AllocEr
 }
 
 impl Queue {
-    /// The queue of a graph without nodes.
-    pub(crate) fn none(alloc: Global) -> Queue
-        ensures { IsQueue [] [] [] result }
-    {
-        Queue {
-            ready: BTreeSet::new(alloc),
-            watchers: Vec::new(alloc),
-            places: Vec::new(alloc),
-        }
-    }
-
     /// No node is ready, and none watches another.
     fn empty(alloc: Global, count: usize) -> Result<Queue, AllocError>
         ensures ready { IfOk result (λ queue. queue.ready.keys ≡ []) }

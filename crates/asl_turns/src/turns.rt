@@ -1,6 +1,6 @@
 //! Which node is next, if each waits until all that it uses is settled.
 
-ghost use Rattle.std.specs.Prelude.{◌≡◌, ◌+◌, [], map, false, length, slice_set, IfOk, OnSome};
+ghost use Rattle.std.specs.Prelude.{◌≡◌, ◌+◌, map, false, length, slice_set, IfOk, OnSome};
 ghost use Rattle.asl_turns.specs.Turns as rules;
 
 use crate::queue::Queue;
@@ -54,18 +54,6 @@ fn put(marks: &mut Items<bool>, node: usize, mark: bool)
 }
 
 impl Turns {
-    /// Those of a graph without nodes.
-    pub fn none(alloc: Global) -> Turns
-        ensures { result ≡ rules.begun [] [] }
-    {
-        Turns {
-            graph: Items::new(alloc),
-            waiting: Items::new(alloc),
-            settled: Items::new(alloc),
-            queue: Queue::none(alloc),
-        }
-    }
-
     /// Before the first turn: no node is settled.
     pub fn new(
         alloc: Global,

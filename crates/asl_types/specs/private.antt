@@ -4,7 +4,6 @@ pub mod Answers
 pub mod Codes
 pub mod EntryCodes
 pub mod FieldPlaces
-pub mod Fronts
 pub mod Heights
 pub mod HeightsFall
 pub mod Limited

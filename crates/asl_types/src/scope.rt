@@ -6,7 +6,6 @@ ghost use Rattle.asl_value.specs.View.{value_of};
 ghost use Rattle.asl_rules.specs.declarations.Scopes as rules;
 ghost use Rattle.asl_rules.specs.declarations.Scopes.{with_entry};
 ghost use Rattle.asl_rules.specs.declarations.Layouts.{slot_of, local_names, global_names, layout_of};
-ghost use Rattle.asl_types.specs.private.Fronts.{IsFront};
 ghost use Rattle.asl_types.specs.private.Standings.{storage_view, standing_view, value_behind, form_view, entry_view, storage_sort, is_outside, settled, slot_by, HasSlot};
 
 use crate::ty::Ty;
@@ -290,11 +289,9 @@ impl<'a> Scope<'a> {
     }
 
     /// A name becomes visible, where it isn't.
-    #[tactic(auto, using(crate::proofs::FrontLemmas::front_first))]
     fn declare(&mut self, name: &'a [u8], form: Form) -> Result<(), Refused>
         ensures declared { OnOk result (self.new ≡ with_entry (entry_view name.now form) self.old) }
         ensures memory { IfErr result (λ e. e ≡ Refused.NoMemory) }
-        ensures front { IsFront self.old self.new }
     {
         if self.is_free(name) {
             let before = self.numbers();
@@ -309,7 +306,6 @@ impl<'a> Scope<'a> {
     pub fn declare_variable(&mut self, name: &'a [u8], ty: Ty) -> Result<(), Refused>
         ensures declared { OnOk result (self.new ≡ with_entry (rules.variable name.now ty) self.old) }
         ensures memory { IfErr result (λ e. e ≡ Refused.NoMemory) }
-        ensures front { IsFront self.old self.new }
     {
         self.declare(name, Form::Local(ty, true, None))
     }
@@ -323,7 +319,6 @@ impl<'a> Scope<'a> {
     ) -> Result<(), Refused>
         ensures declared { OnOk result (self.new ≡ with_entry (rules.fixed name.now ty counted) self.old) }
         ensures memory { IfErr result (λ e. e ≡ Refused.NoMemory) }
-        ensures front { IsFront self.old self.new }
     {
         self.declare(name, Form::Local(ty, false, counted))
     }

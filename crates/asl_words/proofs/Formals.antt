@@ -16,9 +16,7 @@ use Rattle.asl_rules.specs.declarations.Turns.{names_of_program}
 use Rattle.asl_rules.specs.runs.Evaluation.{initial_globals}
 use Rattle.asl_rules.specs.Faults.{need}
 use Rattle.asl_rules.specs.private.Grown.{AreGrown}
-use Rattle.asl_rules.specs.declarations.Environments.{funcs_of}
-use Rattle.asl_rules.specs.declarations.Signatures.{Head, may_end, body_of, tree_func, body_rule, signatures, types_in as list_types}
-use Rattle.asl_rules.specs.declarations.Programs.{Accepted, environment, entry_from, takes_word}
+use Rattle.asl_rules.specs.declarations.Programs.{funcs_of, Head, may_end, body_of, tree_func, body_rule, signatures, types_in as list_types, Accepted, environment, entry_from, takes_word}
 use Rattle.asl_rules.specs.declarations.Scopes.{Signature}
 use Rattle.asl_rules.specs.statements.Stmts.{found_stmt}
 use Rattle.asl_rules.specs.Tests.{Tests, IsRight}
@@ -28,7 +26,7 @@ use Rattle.asl_rules.specs.values.Values.{bits_with}
 use Rattle.asl_rules.specs.types.Views.{viewed}
 use Rattle.asl_rules.proofs.basics.Inversions.{ok_ok, bind_ok, then_ok}
 use Rattle.asl_rules.proofs.basics.Tests.{some_same, none_some}
-use Rattle.asl_laws.proofs.soundness.ProgramSound.{soundness}
+use Rattle.asl_laws.proofs.soundness.Soundness.{soundness}
 use Rattle.asl_laws.proofs.soundness.SoundnessEntry.{word_call, word_for}
 use Rattle.asl_laws.proofs.soundness.SoundnessFacts.{Facts, numbered}
 use Rattle.asl_laws.proofs.reported.Asked.{HasAsked, both_there, decode16_there, decode_there}

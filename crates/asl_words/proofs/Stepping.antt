@@ -4,8 +4,7 @@ use Rattle.std.specs.Prelude.{IfOk, OnErr}
 use Rattle.std.proofs.lemmas.List.{drop_more, take-append-drop, take_more}
 use Rattle.asl_rules.specs.runs.Machines.{GivenUp, run_of}
 use Rattle.asl_rules.specs.runs.Plans.{Meter, Outcome, Faulted, final, starting}
-use Rattle.asl_rules.specs.declarations.Environments.{Environment}
-use Rattle.asl_rules.specs.declarations.Programs.{Entries, environment}
+use Rattle.asl_rules.specs.declarations.Programs.{Environment, Entries, environment}
 use Rattle.asl_rules.specs.runs.States.{Binding, Core}
 use Rattle.asl_rules.specs.Tests.{Tests}
 use Rattle.asl_bits.specs.Lists.{bits_of}

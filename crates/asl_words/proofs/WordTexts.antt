@@ -2,8 +2,7 @@
 use Rattle.std.proofs.Common.{◌≡◌, ℕ, zero, suc, ◌-◌, ◌<◌, List, [], ◌∷◌, ◌++◌, Option, refl, sym, ap, ◌∙◌, subst, arith}
 use Rattle.asl_rules.specs.runs.Machines.{GivenUp, text_of_run}
 use Rattle.asl_rules.specs.runs.Plans.{Meter, Outcome, Done, Thrown, Halt, final, starting}
-use Rattle.asl_rules.specs.declarations.Environments.{Environment}
-use Rattle.asl_rules.specs.declarations.Programs.{Entries}
+use Rattle.asl_rules.specs.declarations.Programs.{Environment, Entries}
 use Rattle.asl_rules.specs.runs.States.{Binding, Core}
 use Rattle.asl_rules.specs.runs.Told.{Begins, appended}
 use Rattle.asl_rules.specs.values.Values.{Value}

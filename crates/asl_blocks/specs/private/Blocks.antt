@@ -1,5 +1,5 @@
 -- What a statement may take of the function that checks the lists inside it: its contract, at lists in which fewer statements stand.
-use Rattle.std.specs.Prelude.{◌≡◌, ◌<◌, ℕ, List, map, Result}
+use Rattle.std.specs.Prelude.{◌≡◌, ◌<◌, ℕ, List, map, Result, OnOk}
 use denote.Ref.{Bor, MutBor}
 use Rattle.asl_syn.specs.declared.code.Refused.{Refused}
 use Rattle.asl_syn.specs.declared.tree.Stmt.{Stmt}
@@ -20,4 +20,4 @@ pub record Blocks (n : ℕ)
   pub callable : (names : MutBor (List Entry)) (body : Bor Body) (ss : Bor (List Stmt)) → stmts_size ss.now < n → pre names body ss
   pub rule : (names names1 : MutBor (List Entry)) (body : Bor Body) (ss : Bor (List Stmt)) (r : Result Listed Refused) → post names body ss r names1 →
       (t : Tests) → Suits t → Met (listed_of names.now) r (shut (map (walk_stmt t) ss.now) (body_of names.now body.now))
-  pub kept : (names names1 : MutBor (List Entry)) (body : Bor Body) (ss : Bor (List Stmt)) (r : Result Listed Refused) → post names body ss r names1 → names1.now ≡ names.now
+  pub kept : (names names1 : MutBor (List Entry)) (body : Bor Body) (ss : Bor (List Stmt)) (r : Result Listed Refused) → post names body ss r names1 → OnOk r (names1.now ≡ names.now)

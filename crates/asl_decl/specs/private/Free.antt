@@ -6,7 +6,7 @@ use Rattle.asl_syn.specs.declared.tree.Formal.{Formal}
 use Rattle.asl_syn.specs.declared.tree.Func.{Func}
 use Rattle.asl_syn.specs.declared.tree.Param.{Param}
 use Rattle.asl_rules.specs.Faults.{◌>>=◌, ◌>>◌, need}
-use Rattle.asl_rules.specs.declarations.Signatures.{params_free, formals_free}
+use Rattle.asl_rules.specs.declarations.Programs.{params_free, formals_free}
 use Rattle.asl_rules.specs.declarations.Scopes.{Entry, is_free, is_absent}
 use Rattle.asl_names.specs.private.Firsts.{Places, first_place, kept}
 

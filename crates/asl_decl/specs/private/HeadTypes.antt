@@ -1,5 +1,5 @@
 -- The types of parameters, formals and results, as the checker finds them.
-use Rattle.std.specs.Prelude.{false, List, [], ◌∷◌, ◌++◌, Option, None, Some, Result, Ok}
+use Rattle.std.specs.Prelude.{◌≡◌, false, List, [], ◌∷◌, ◌++◌, Option, None, Some, Result, Ok}
 use Rattle.asl_syn.specs.declared.code.Fault.{Fault}
 use Rattle.asl_syn.specs.declared.tree.Formal.{Formal}
 use Rattle.asl_syn.specs.declared.tree.Func.{Func}
@@ -10,8 +10,8 @@ use Rattle.asl_rules.specs.Tests.{Tests}
 use Rattle.asl_rules.specs.types.Types.{Ty}
 use Rattle.asl_rules.specs.declarations.Scopes.{Scope, Entry, Param, next_atom, with_entry}
 use Rattle.asl_rules.specs.declarations.Declarations.{in_names}
-use Rattle.asl_rules.specs.declarations.Signatures.{param_entry}
-use Rattle.asl_decl.specs.private.Definitions.{type_written}
+use Rattle.asl_rules.specs.declarations.Programs.{param_entry}
+use Rattle.asl_judge.specs.private.Definitions.{type_written}
 
 -- the type that is written, where one is
 abbrev pub maybe_written : Tests → Option TypeExpr → Scope → Result (Option Ty) Fault
@@ -45,3 +45,10 @@ head_types t f names =
     formals_after t [] f.formals (in_names p.1) >>= λ Ts.
     maybe_written t f.result (in_names p.1) >>= λ T.
     Ok (types_with p.0 Ts T)
+
+-- ---- the names before
+
+-- the second names are the first and then others
+pub record IsFront (N K : List Entry) : Type 0 where
+  pub more : List Entry
+  pub is : K ≡ N ++ more

@@ -11,10 +11,10 @@ use Rattle.asl_rules.specs.Tests.{Tests}
 use Rattle.asl_rules.specs.types.Types.{is_integer}
 use Rattle.asl_rules.specs.declarations.Scopes.{Entry, Param, with_class}
 use Rattle.asl_rules.specs.expressions.Exprs.{found}
-use Rattle.asl_rules.specs.declarations.Barred.{limit_barred}
+use Rattle.asl_rules.specs.declarations.Barred.{barred}
 use Rattle.asl_rules.specs.declarations.Declarations.{in_names, known}
-use Rattle.asl_rules.specs.declarations.Signatures.{limit_typed, params_are_integers, limit_rule, as_number}
-use Rattle.asl_decl.specs.private.Definitions.{type_found}
+use Rattle.asl_rules.specs.declarations.Programs.{limit_typed, params_are_integers, limit_rule, as_number}
+use Rattle.asl_judge.specs.private.Definitions.{type_found}
 
 -- the types of the parameters are integers, and then the number that is written, or the usual one
 abbrev pub limit_after : Tests → Func → List Param → List Entry → Result ℤ Fault
@@ -27,7 +27,7 @@ limit_known t e globals = known t e (in_names globals) >>= λ x. as_number (foun
 -- where an expression is written
 abbrev pub limit_written : Tests → Func → Expr → List Param → List Entry → Result ℤ Fault
 limit_written t f e ps globals =
-    none_at T04 (limit_barred e globals) >>
+    none_at T04 (barred e globals) >>
     type_found t e (with_class (in_names globals) Pure) >>= λ T.
     params_are_integers t f.params ps >>
     need (is_integer T) T05 (found t e).span >>

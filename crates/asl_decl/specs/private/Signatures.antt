@@ -7,7 +7,7 @@ use Rattle.asl_syn.specs.declared.tree.Func.{Func}
 use Rattle.asl_rules.specs.Faults.{◌>>=◌, ◌>>◌}
 use Rattle.asl_rules.specs.Tests.{Tests}
 use Rattle.asl_rules.specs.declarations.Scopes.{Entry, Signature}
-use Rattle.asl_rules.specs.declarations.Signatures.{class_of}
+use Rattle.asl_rules.specs.declarations.Programs.{class_of}
 use Rattle.asl_types.specs.View.{parts_of}
 use Rattle.asl_subprograms.specs.private.Apart.{apart_rule}
 use Rattle.asl_decl.specs.private.Free.{free_rule}

@@ -4,11 +4,9 @@ use Rattle.asl_rules.specs.runs.Told.{Begins}
 use Rattle.asl_rules.specs.values.Values.{Value}
 use Rattle.asl_rules.specs.runs.States.{Binding, Core, resting}
 use Rattle.asl_rules.specs.runs.Plans.{Meter, Faulted, Stuck, Outcome, Done, Thrown, Halt, final, wrote, meanings}
-use Rattle.asl_rules.specs.declarations.Environments.{Environment}
-use Rattle.asl_rules.specs.declarations.Programs.{Entries}
+use Rattle.asl_rules.specs.declarations.Programs.{Environment, Entries}
 use Rattle.asl_rules.specs.runs.Evaluation.{nodes, call_of}
-use Rattle.asl_rules.specs.runs.Limits.{most_open}
-use Rattle.asl_rules.specs.runs.Machines.{run_of}
+use Rattle.asl_rules.specs.runs.Machines.{most_open, run_of}
 use Rattle.asl_rules.specs.report.WordList.{Word}
 use Rattle.asl_rules.specs.runs.Words.{WordsEnd, behind_word, entry_for, run_word, run_words, word_line, word_value, words_final}
 use Rattle.asl_laws.proofs.runs.Budget.{longer, After, self, grows}

@@ -97,7 +97,7 @@ in_frame d a av ps gs fit same T U o s k =
 pub result_in : (d : List ℕ → Option Ty) (a av : Assignment) (T U : Ty) (x : Value) → type_with U a ≡ type_with T av → InType d av x T → InType d a x U
 result_in d a av T U x e i = (subst (λ C. has x C ≡ true) (sym e) i.0, i.1, subst (λ C. viewed C x ≡ x) (sym e) i.2)
 
-module _ (tests : Tests) (right : IsRight tests) (ds : List Decl) (base : List Entry) (gv : Assignment) (subs : List Signature) (loose : Bool) (funcs : List TreeFunc) (w : WellNamed base) where
+module _ (tests : Tests) (right : IsRight tests) (ds : List Decl) (base : List Entry) (subs : List Signature) (loose : Bool) (funcs : List TreeFunc) (w : WellNamed base) where
   abbrev pub AllFormed : Parts → Type 0
   AllFormed no_part = Unit {0}
   AllFormed (part T Ts) = WellFormed (types_in base) T × AllFormed Ts
@@ -119,7 +119,7 @@ module _ (tests : Tests) (right : IsRight tests) (ds : List Decl) (base : List E
   pub arguments_in : (a av : Assignment) (span : Span) (ps : List Param) (gs : List Given) → AllFit a gs →
       ((n : ℕ) → IsAtomOf ps n → behind (replaced_by ps gs) a n ≡ av n) → (Ts : Parts) (os : List Operand) (xs : List Value) →
       kinds_eq (kinds Ts) (kinds (types_of os)) ≡ true → AllOver (IsAtomOf ps) Ts → AllFormed (types_of os) → AllFormed Ts →
-      arguments_fit tests span (replaced_by ps gs) Ts os ≡ Ok tt → AllIn (types_in base) a (types_of os) xs → HasAll tests right ds base gv subs loose funcs w av Ts xs
+      arguments_fit tests span (replaced_by ps gs) Ts os ≡ Ok tt → AllIn (types_in base) a (types_of os) xs → HasAll tests right ds base subs loose funcs w av Ts xs
   arguments_in a av span ps gs fit same no_part [] [] k o s t f i = tt
   arguments_in a av span ps gs fit same no_part [] (x ∷ xs) k o s t f i = absurd i
   arguments_in a av span ps gs fit same no_part (e ∷ os) xs k o s t f i = no k

@@ -1,5 +1,5 @@
 -- What the rules say of the body of a subprogram, in the frame of a call.
-use Rattle.std.proofs.Common.{◌≡◌, ℕ, suc, ◌<◌, ◌≤◌, Bool, true, false, cond, ◌&&◌, List, [], ◌∷◌, ◌++◌, Option, Some, None, Ok, refl, sym, ap, ◌∙◌, subst, arith, map, append_assoc, inl}
+use Rattle.std.proofs.Common.{◌≡◌, ℕ, suc, ◌<◌, ◌≤◌, Bool, true, false, cond, ◌&&◌, List, [], ◌∷◌, ◌++◌, Option, Some, None, Ok, refl, sym, ap, ◌∙◌, subst, arith, map, append_assoc}
 use Rattle.std.specs.Str.{bytes_eq}
 use Rattle.asl_syn.specs.declared.code.StaticCode.TheVariants.{T17}
 use Rattle.asl_syn.specs.declared.tree.Decl.{Decl}
@@ -16,8 +16,8 @@ use Rattle.asl_rules.specs.runs.Trees.{TreeFunc}
 use Rattle.asl_rules.specs.statements.Acting.{Listed, in_order}
 use Rattle.asl_rules.specs.statements.Stmts.{found_stmt}
 use Rattle.asl_rules.specs.statements.Locals.{itself}
+use Rattle.asl_rules.specs.declarations.Programs.{Head, body_scope, body_of, may_end, tree_func, body_rule, signature_rule, params_rule, param_written, param_entry, with_formals}
 use Rattle.asl_rules.specs.private.Agreement.{types_in, SameOn}
-use Rattle.asl_rules.specs.declarations.Signatures.{Head, body_scope, body_of, may_end, tree_func, body_rule, signature_rule, params_rule, param_written, param_entry, with_formals}
 use Rattle.asl_rules.proofs.basics.Inversions.{ok_ok, bind_ok, then_ok, need_ok}
 use Rattle.asl_rules.proofs.basics.Tests.{some_same, none_some}
 use Rattle.asl_rules.proofs.widths.Counting.{no_fewer}
@@ -73,7 +73,7 @@ params_behind t (p ∷ ps) pre names r h =
 pub params_atoms : (t : Tests) (ps : List WrittenParam) (base : List Entry) (r : List Param × List Entry) → next_atom base ≡ 0 → params_rule t ps [] base ≡ Ok r → AtomsFrom 0 r.0
 params_atoms t ps base r z h = let k = params_behind t ps [] base r h in subst (AtomsFrom 0) k.is (subst (λ n. AtomsFrom n k.rest) z k.atoms)
 
-module _ (tests : Tests) (right : IsRight tests) (ds : List Decl) (base : List Entry) (gv : Assignment) (subs : List Signature) (loose : Bool) (funcs : List TreeFunc) (w : WellNamed base) where
+module _ (tests : Tests) (right : IsRight tests) (ds : List Decl) (base : List Entry) (subs : List Signature) (loose : Bool) (funcs : List TreeFunc) (w : WellNamed base) where
   -- the result of a subprogram that is chosen is well formed
   chosen_by : (b : Bool) (n : ℕ) (f : Signature) (o : Option Chosen) (c : Chosen) → FormedResult (types_in base) f.result → (o ≡ Some c → FormedResult (types_in base) c.signature.result) → cond b (Some (record { number = n; signature = f })) o ≡ Some c → FormedResult (types_in base) c.signature.result
   chosen_by true n f o c r next h = subst (λ (z : Chosen). FormedResult (types_in base) z.signature.result) (some_same (record { number = n; signature = f }) c h) r
@@ -96,12 +96,12 @@ module _ (tests : Tests) (right : IsRight tests) (ds : List Decl) (base : List E
 
   result_same : (T : Option Ty) (ps : List Param) (names : List Entry) (a b : Assignment) → ((U : Ty) → T ≡ Some U → Over (IsAtomOf ps) U) → ((n : ℕ) → IsAtomOf ps n → n < next_atom names) → SameOn names a b → result_at b T ≡ result_at a T
   result_same None ps names a b o l s = refl
-  result_same (Some T) ps names a b o l s = ap Some (sym (type_moved (IsAtomOf ps) a b (λ n i. s n (inl (l n i))) T (o T refl)))
+  result_same (Some T) ps names a b o l s = ap Some (sym (type_moved (IsAtomOf ps) a b (λ n i. s n (l n i)) T (o T refl)))
 
   -- a body with its list of typed trees
   pub record BodyWith (h : Head) (t : TreeFunc) (a : Assignment) : Type 0 where
     pub list : Listed
-    pub ok : BodyOk tests right ds base gv subs loose funcs w h list a
+    pub ok : BodyOk tests right ds base subs loose funcs w h list a
     pub is : tree_func h list.acts ≡ t
 
   pub body_ok : (f : Func) (h : Head) (t : TreeFunc) (a : Assignment) → NamesOutside base → SubsOver subs → FormedResult (types_in base) h.signature.result → signature_rule tests base f ≡ Ok h → body_rule tests subs h ≡ Ok t → BodyWith h t a

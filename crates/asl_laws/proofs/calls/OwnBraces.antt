@@ -18,7 +18,7 @@ use Rattle.asl_rules.specs.types.Alone.{polynomial}
 use Rattle.asl_rules.specs.expressions.Typing.{Operand, types_of}
 use Rattle.asl_rules.specs.expressions.Calls.{Given, Replacing, replacing, argument_first, given_by_argument, widths_given, widths_omitted, widths_rule, polys, replaced_by}
 use Rattle.asl_rules.specs.expressions.Exprs.{found}
-use Rattle.asl_rules.specs.declarations.Signatures.{Head, param_written, param_entry, params_rule}
+use Rattle.asl_rules.specs.declarations.Programs.{Head, param_written, param_entry, params_rule}
 use Rattle.asl_rules.specs.types.Numbers.{Numbers, outside}
 use Rattle.asl_rules.specs.runs.States.{Core}
 use Rattle.asl_rules.specs.private.Agreement.{types_in, GlobalsMatch}
@@ -108,21 +108,21 @@ chosen_same n name Ts [] c h = none_some c h
 chosen_same n name Ts (f ∷ fs) c h = same_by (bytes_eq f.name name && same_kinds f.formals Ts) (bytes_eq f.name name) n f Ts (choose_from (suc n) name Ts fs) c refl (λ k. chosen_same (suc n) name Ts fs c k) h
 
 -- the parameters of a call: for a run, for its typed tree, and at the integers of the frame
-pub record ParamsSo (a gv : Assignment) (span : Span) (f : Func) (qs : List Param) (r : Replacing) (ys xs : List Value) (c : Core) : Type 0 where
+pub record ParamsSo (a : Assignment) (span : Span) (f : Func) (qs : List Param) (r : Replacing) (ys xs : List Value) (c : Core) : Type 0 where
   pub params : List Value
   pub params_are : params_of span (outside c) f ys xs ≡ Good params
   pub widths_are : bare.params_of span r.places ys xs ≡ Good params
   pub wide : AllWide a (polys r.given) params
-  pub same : (n : ℕ) → IsAtomOf qs n → behind (replaced_by qs r.given) a n ≡ integers_of gv (params ++ xs) n
+  pub same : (n : ℕ) → IsAtomOf qs n → behind (replaced_by qs r.given) a n ≡ integers_of (params ++ xs) n
 
-frame_at : (a gv : Assignment) (qs : List Param) (gs : List Given) (ps xs : List Value) → AtomsFrom 0 qs → Paired qs gs →
-    AllWide a (polys gs) ps → (n : ℕ) → IsAtomOf qs n → behind (replaced_by qs gs) a n ≡ integers_of gv (ps ++ xs) n
-frame_at a gv qs gs ps xs t p w n i = same_at a (integers_of gv (ps ++ xs)) 0 qs gs ps xs t p w (follows (integers_of gv (ps ++ xs)) gv 0 (ps ++ xs) (λ m. ap (integers_of gv (ps ++ xs)) (nothing_more m))) n i
+frame_at : (a : Assignment) (qs : List Param) (gs : List Given) (ps xs : List Value) → AtomsFrom 0 qs → Paired qs gs →
+    AllWide a (polys gs) ps → (n : ℕ) → IsAtomOf qs n → behind (replaced_by qs gs) a n ≡ integers_of (ps ++ xs) n
+frame_at a qs gs ps xs t p w n i = same_at a (integers_of (ps ++ xs)) 0 qs gs ps xs t p w (follows (integers_of (ps ++ xs)) 0 (ps ++ xs) (λ m. ap (integers_of (ps ++ xs)) (nothing_more m))) n i
   where
     nothing_more : (m : ℕ) → m + 0 ≡ m
     nothing_more m = omega arith
 
-module _ (tests : Tests) (right : IsRight tests) (base : List Entry) (gv : Assignment) (subs : List Signature) (loose : Bool) where
+module _ (tests : Tests) (right : IsRight tests) (base : List Entry) (subs : List Signature) (loose : Bool) where
   -- the head of a signature
   signature_of : (f : Func) (h : Head) (s : Signature) (i : HeadIs tests base f h) → h.signature ≡ s → (i.params.0 ≡ s.params) × (i.formals ≡ s.formals)
   signature_of f h s i e = (ap (λ (z : Head). z.signature.params) i.is ∙ ap (λ (z : Signature). z.params) e, ap (λ (z : Head). z.signature.formals) i.is ∙ ap (λ (z : Signature). z.formals) e)
@@ -133,35 +133,35 @@ module _ (tests : Tests) (right : IsRight tests) (base : List Entry) (gv : Assig
   -- parameters of a call, asked for where they are in braces; and what they are where the arguments have their types
   pub record ParamsAsked (H : Here) (span : Span) (s : Signature) (es : List Expr) (os : List Operand) (r : Replacing) : Type 0 where
     pub asked : List Asked
-    pub asks : AllAsked tests right base gv subs loose H.scope es r.trees asked
+    pub asks : AllAsked tests right base subs loose H.scope es r.trees asked
     pub paired : Paired s.params r.given
-    pub gives : (f : Func) (h : Head) (ys xs : List Value) (c : Core) → HeadIs tests base f h → h.signature ≡ s → GlobalsMatch base gv c.globals → AllGive tests right base gv subs loose H asked ys → AllIn (types_in base) H.present (types_of os) xs → ParamsSo H.present gv span f s.params r ys xs c
+    pub gives : (f : Func) (h : Head) (ys xs : List Value) (c : Core) → HeadIs tests base f h → h.signature ≡ s → GlobalsMatch base c.globals → AllGive tests right base subs loose H asked ys → AllIn (types_in base) H.present (types_of os) xs → ParamsSo H.present span f s.params r ys xs c
 
   omitted_params : (H : Here) (span : Span) (s : Signature) (os : List Operand) (r : Replacing) → next_atom base ≡ 0 →
       NamesOver Never base → kinds_eq (kinds s.formals) (kinds (types_of os)) ≡ true → ShapedParts (types_in base) (types_of os) →
       widths_omitted span s.params s.formals os ≡ Ok r →
-      (f : Func) (h : Head) (ys xs : List Value) (c : Core) → HeadIs tests base f h → h.signature ≡ s → GlobalsMatch base gv c.globals → AllGive tests right base gv subs loose H [] ys → AllIn (types_in base) H.present (types_of os) xs → ParamsSo H.present gv span f s.params r ys xs c
+      (f : Func) (h : Head) (ys xs : List Value) (c : Core) → HeadIs tests base f h → h.signature ≡ s → GlobalsMatch base c.globals → AllGive tests right base subs loose H [] ys → AllIn (types_in base) H.present (types_of os) xs → ParamsSo H.present span f s.params r ys xs c
   omitted_params H span s os r z g k t o f h (y ∷ ys) xs c i e m v x = absurd v
   omitted_params H span s os r z g k t o f h [] xs c i e m v x =
       let p = width_over (outside c) f.params 0 in
       let q = signature_of f h s i e in
       let d = omitted_same tests right (types_in base) H.present p i.params.1
-      (λ b w j. subst (λ n. polynomial b (λ name. width_over (outside c) f.params n name) ≡ Some w.poly) z (formal_width tests (outside c) f.params base i.before i.params b w (outside_is tests base gv c m) i.params_new i.params_are j))
+      (λ b w j. subst (λ n. polynomial b (λ name. width_over (outside c) f.params n name) ≡ Some w.poly) z (formal_width tests (outside c) f.params base i.before i.params b w (outside_is tests base c m) i.params_new i.params_are j))
       (λ name T j. type_over Never tests base name T g (types_back tests f.params [] base i.params name T i.params_are j))
       span 0 f.params i.params.0 f.formals i.formals os xs r (params_many tests f.params base i.params i.params_are) (params_atoms tests f.params base i.params z i.params_are) i.formals_are
       (subst (λ Ts. kinds_eq (kinds Ts) (kinds (types_of os)) ≡ true) (sym q.1) k) x t
       (subst (λ Ts. widths_omitted span i.params.0 Ts os ≡ Ok r) (sym q.1) (subst (λ ps. widths_omitted span ps s.formals os ≡ Ok r) (sym q.0) o)) in
-      record { params = d.values; params_are = d.run_is; widths_are = d.tree_is; wide = d.wide; same = frame_at H.present gv s.params r.given d.values xs (atoms_of f h s z i e) (subst (λ ps. Paired ps r.given) q.0 d.paired) d.wide }
+      record { params = d.values; params_are = d.run_is; widths_are = d.tree_is; wide = d.wide; same = frame_at H.present s.params r.given d.values xs (atoms_of f h s z i e) (subst (λ ps. Paired ps r.given) q.0 d.paired) d.wide }
 
   pub params_asked : (H : Here) (span : Span) (s : Signature) (es : List Expr) (os : List Operand) (r : Replacing) → next_atom base ≡ 0 →
       NamesOver Never base → kinds_eq (kinds s.formals) (kinds (types_of os)) ≡ true → ShapedParts (types_in base) (types_of os) →
       widths_rule span s (map (found tests) es) os H.scope ≡ Ok r → ParamsAsked H span s es os r
   params_asked H span s [] os r z g k t h =
       let o = is_omitted span s.params s.formals os r h in
-      record { asked = []; asks = subst (λ ts. AllAsked tests right base gv subs loose H.scope [] ts []) (sym o.no_trees) tt; paired = o.paired; gives = omitted_params H span s os r z g k t h }
+      record { asked = []; asks = subst (λ ts. AllAsked tests right base subs loose H.scope [] ts []) (sym o.no_trees) tt; paired = o.paired; gives = omitted_params H span s os r z g k t h }
   params_asked H span s (b ∷ es) os r z g k t h =
       let u = then_ok (need (length (map (found tests) (b ∷ es)) == length s.params) T11 span) (widths_given (map (found tests) (b ∷ es)) H.scope) r h in
-      let q = widths_asked tests right base gv subs loose H (b ∷ es) r u.then in
+      let q = widths_asked tests right base subs loose H (b ∷ es) r u.then in
       let n = same_number (length (map (found tests) (b ∷ es))) (length s.params) (need_ok (length (map (found tests) (b ∷ es)) == length s.params) T11 span tt u.first) in
       let p = paired_by s.params r.given (q.as_many ∙ n) in
       record {
@@ -171,5 +171,5 @@ module _ (tests : Tests) (right : IsRight tests) (base : List Entry) (gv : Assig
         gives = λ f d ys xs c i e m v x.
             let wide = q.wide ys v in
             let y = in_braces H.present span (outside c) f r.places (polys r.given) ys xs (length (map (found tests) es)) wide q.as_many in
-            record { params = ys; params_are = y.run_is; widths_are = y.tree_is; wide = wide; same = frame_at H.present gv s.params r.given ys xs (atoms_of f d s z i e) p wide };
+            record { params = ys; params_are = y.run_is; widths_are = y.tree_is; wide = wide; same = frame_at H.present s.params r.given ys xs (atoms_of f d s z i e) p wide };
       }

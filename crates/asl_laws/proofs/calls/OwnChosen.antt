@@ -15,7 +15,7 @@ use Rattle.asl_poly.specs.Poly.{constant_map}
 use Rattle.asl_rules.specs.Faults.{need, fault_of}
 use Rattle.asl_rules.specs.Tests.{Tests, IsRight}
 use Rattle.asl_rules.specs.types.Types.{Ty, Parts, no_part, part, kind, kinds, kinds_eq, kind_eq, is_integer, same_kinds}
-use Rattle.asl_rules.specs.types.Closed.{closed, Assignment}
+use Rattle.asl_rules.specs.types.Closed.{closed}
 use Rattle.asl_rules.specs.values.Values.{Value, int, bool, bits_with, label, record_with, exception_with, tuple_with, array_with, kind_of}
 use Rattle.asl_rules.specs.declarations.Scopes.{Entry, Signature, Param, Chosen, Standing, Stored, Subprogram, TypeName, Label, standing_of, type_of_name, type_in, known_value, next_atom, choose_from}
 use Rattle.asl_rules.specs.runs.Trees.{TreeFunc}
@@ -24,13 +24,12 @@ use Rattle.asl_rules.specs.types.Widths.{width_of_known, width_of_counted, width
 use Rattle.asl_rules.specs.types.Writing.{Written}
 use Rattle.asl_rules.specs.expressions.Exprs.{found, written}
 use Rattle.asl_rules.specs.types.Alone.{Polynomials, polynomial}
-use Rattle.asl_rules.specs.declarations.Declarations.{in_names}
-use Rattle.asl_rules.specs.declarations.InitialValues.{evaluated}
+use Rattle.asl_rules.specs.declarations.Declarations.{in_names, evaluated}
 use Rattle.asl_rules.specs.declarations.Constants.{constant}
-use Rattle.asl_rules.specs.declarations.Signatures.{Head, class_of, params_free, formals_free, params_rule, param_written, param_entry, formals_rule, result_rule, limit_typed, params_are_integers, limit_rule, as_number, with_formals, signature_rule, signatures_rule, signatures, body_rule, bodies_rule}
+use Rattle.asl_rules.specs.declarations.Programs.{Head, class_of, params_free, formals_free, params_rule, param_written, param_entry, formals_rule, result_rule, limit_typed, params_are_integers, limit_rule, as_number, with_formals, signature_rule, signatures_rule, signatures, body_rule, bodies_rule}
 use Rattle.asl_rules.specs.types.Numbers.{Numbers, outside}
 use Rattle.asl_rules.specs.runs.States.{Core}
-use Rattle.asl_rules.specs.private.Agreement.{types_in, GlobalsMatch}
+use Rattle.asl_rules.specs.private.Agreement.{types_in, no_atoms, GlobalsMatch}
 use Rattle.asl_rules.specs.runs.Plans.{Faulted, Stuck, Pure as PureOf, Good, Bad}
 use Rattle.asl_rules.specs.runs.Pures as pures
 use Rattle.asl_rules.specs.runs.ByNames.{types_among}
@@ -110,18 +109,18 @@ known_number span v p h =
     let w = integer_of_width span v p h in
     (w.number, (w.is, ok_ok (constant_map w.number) p (then_ok _ (Ok (constant_map w.number)) p w.made).then))
 
-outside_by : (base : List Entry) (gv : Assignment) (c : Core) → GlobalsMatch base gv c.globals → (span : Span) (name : List ℕ) (p : Polynomial) (o : Option Standing) → standing_of name base ≡ o → width_of_standing span o ≡ Ok p → option_map constant_map (outside c name) ≡ Some p
-outside_by base gv c m span name p (Some (Stored s)) e h =
+outside_by : (base : List Entry) (c : Core) → GlobalsMatch base c.globals → (span : Span) (name : List ℕ) (p : Polynomial) (o : Option Standing) → standing_of name base ≡ o → width_of_standing span o ≡ Ok p → option_map constant_map (outside c name) ≡ Some p
+outside_by base c m span name p (Some (Stored s)) e h =
     let u = then_ok (need (is_integer s.ty) T05 span) (width_of_counted span s.counted (known_value s)) p h in
-    let k = known_number span (known_value s) p (subst (λ o. width_of_counted span o (known_value s) ≡ Ok p) (none_counted (types_in base) gv base name s c.globals m e) u.then) in
-    ap (option_map constant_map) (outside_known gv base gv c.globals name s k.0 m e k.1.0) ∙ ap Some k.1.1
-outside_by base gv c m span name p (Some (Label T x)) e h = err_ok (fault_of T05 span) p h
-outside_by base gv c m span name p (Some Subprogram) e h = err_ok (fault_of T02 span) p h
-outside_by base gv c m span name p (Some (TypeName T)) e h = err_ok (fault_of T02 span) p h
-outside_by base gv c m span name p None e h = err_ok (fault_of T02 span) p h
+    let k = known_number span (known_value s) p (subst (λ o. width_of_counted span o (known_value s) ≡ Ok p) (none_counted (types_in base) base name s c.globals m e) u.then) in
+    ap (option_map constant_map) (outside_known no_atoms base c.globals name s k.0 m e k.1.0) ∙ ap Some k.1.1
+outside_by base c m span name p (Some (Label T x)) e h = err_ok (fault_of T05 span) p h
+outside_by base c m span name p (Some Subprogram) e h = err_ok (fault_of T02 span) p h
+outside_by base c m span name p (Some (TypeName T)) e h = err_ok (fault_of T02 span) p h
+outside_by base c m span name p None e h = err_ok (fault_of T02 span) p h
 
-pub outside_is : (t : Tests) (base : List Entry) (gv : Assignment) (c : Core) → GlobalsMatch base gv c.globals → Outside t (outside c) base
-outside_is t base gv c m span name p h = outside_by base gv c m span name p (standing_of name base) refl h
+pub outside_is : (t : Tests) (base : List Entry) (c : Core) → GlobalsMatch base c.globals → Outside t (outside c) base
+outside_is t base c m span name p h = outside_by base c m span name p (standing_of name base) refl h
 
 -- no parameter is a type
 type_back : (names : List Entry) (e : Entry) (n : List ℕ) (T : Ty) → type_in (Some e.standing) ≡ None → type_of_name n (names ++ e ∷ []) ≡ Some T → type_of_name n names ≡ Some T
@@ -165,8 +164,8 @@ KindsAre [] (part T Ts) = ⊥
 KindsAre (x ∷ xs) no_part = ⊥
 KindsAre (x ∷ xs) (part T Ts) = (kind_of x ≡ kind T) × KindsAre xs Ts
 
-module _ (tests : Tests) (right : IsRight tests) (ds : List Decl) (base : List Entry) (gv : Assignment) (subs : List Signature) (loose : Bool) (funcs : List TreeFunc) (w : WellNamed base) where
-  limit_by : (span : Span) (e : Option Expr) (o : Option Typed) (z : ℤ) → limit_typed tests e base ≡ Ok o → limit_rule tests e o base ≡ Ok z → limit_of (env tests right ds base gv subs loose funcs w) span e ≡ Good z
+module _ (tests : Tests) (right : IsRight tests) (ds : List Decl) (base : List Entry) (subs : List Signature) (loose : Bool) (funcs : List TreeFunc) (w : WellNamed base) where
+  limit_by : (span : Span) (e : Option Expr) (o : Option Typed) (z : ℤ) → limit_typed tests e base ≡ Ok o → limit_rule tests e o base ≡ Ok z → limit_of (env tests right ds base subs loose funcs w) span e ≡ Good z
   limit_by span None o z k h = ap Good (ok_ok _ z h)
   limit_by span (Some e) None z k h =
       let u = then_ok _ _ None k in
@@ -177,11 +176,11 @@ module _ (tests : Tests) (right : IsRight tests) (ds : List Decl) (base : List E
       let x = bind_ok (evaluated (constant tests.limit e base)) _ z u.then in
       ap (λ r. pures.◌>>=◌ r (λ y. limit_in span y)) (good_of (constant tests.limit e base) x.value x.first) ∙ number_of (found tests e).span span x.value z x.then
 
-  pub head_limit : (span : Span) (f : Func) (h : Head) → HeadIs tests base f h → limit_of (env tests right ds base gv subs loose funcs w) span f.limit ≡ Good h.signature.limit
+  pub head_limit : (span : Span) (f : Func) (h : Head) → HeadIs tests base f h → limit_of (env tests right ds base subs loose funcs w) span f.limit ≡ Good h.signature.limit
   head_limit span f h i = limit_by span f.limit i.typed_limit i.limit i.limit_is_typed i.limit_is ∙ ap (λ (z : Head). Good z.signature.limit) i.is
 
   takes_by : (over : List Entry) (p : Polynomials) → ((t : TypeExpr) (W : Written) → written tests t false (in_names over) ≡ Ok W → kind_written (types_among base) p t ≡ Some (kind W.ty)) → (fs : List Formal) (Ts : Parts) (xs : List Value) (Ss : Parts) → formals_rule tests fs over ≡ Ok Ts → KindsAre xs Ss →
-      takes (env tests right ds base gv subs loose funcs w) p fs xs ≡ kinds_eq (kinds Ts) (kinds Ss)
+      takes (env tests right ds base subs loose funcs w) p fs xs ≡ kinds_eq (kinds Ts) (kinds Ss)
   takes_by over p g [] Ts [] no_part h k = ap (λ z. kinds_eq (kinds z) (kinds no_part)) (ok_ok no_part Ts h)
   takes_by over p g [] Ts (x ∷ xs) (part S Ss) h k = ap (λ z. kinds_eq (kinds z) (kinds (part S Ss))) (ok_ok no_part Ts h)
   takes_by over p g (f ∷ fs) Ts [] no_part h k =
@@ -191,8 +190,8 @@ module _ (tests : Tests) (right : IsRight tests) (ds : List Decl) (base : List E
   takes_by over p g (f ∷ fs) Ts (x ∷ xs) (part S Ss) h k =
       let W = bind_ok (written tests f.ty false (in_names over)) _ Ts h in
       let R = bind_ok (formals_rule tests fs over) _ Ts W.then in
-      ap (λ o. is_kind x o && takes (env tests right ds base gv subs loose funcs w) p fs xs) (g f.ty W.value W.first)
-      ∙ ap (λ m. kind_eq (kind W.value.ty) m && takes (env tests right ds base gv subs loose funcs w) p fs xs) k.0
+      ap (λ o. is_kind x o && takes (env tests right ds base subs loose funcs w) p fs xs) (g f.ty W.value W.first)
+      ∙ ap (λ m. kind_eq (kind W.value.ty) m && takes (env tests right ds base subs loose funcs w) p fs xs) k.0
       ∙ ap (λ b. kind_eq (kind W.value.ty) (kind S) && b) (takes_by over p g fs R.value xs Ss R.first k.1)
       ∙ ap (λ z. kinds_eq (kinds z) (kinds (part S Ss))) (ok_ok (part W.value.ty R.value) Ts R.then)
   takes_by over p g [] Ts [] (part S Ss) h k = absurd k
@@ -201,12 +200,12 @@ module _ (tests : Tests) (right : IsRight tests) (ds : List Decl) (base : List E
   takes_by over p g (f ∷ fs) Ts (x ∷ xs) no_part h k = absurd k
 
   -- a subprogram takes arguments as its signature says
-  pub head_takes : (c : Core) (f : Func) (h : Head) (xs : List Value) (Ss : Parts) → GlobalsMatch base gv c.globals → next_atom base ≡ 0 → HeadIs tests base f h → KindsAre xs Ss → takes (env tests right ds base gv subs loose funcs w) (width_over (outside c) f.params 0) f.formals xs ≡ kinds_eq (kinds h.signature.formals) (kinds Ss)
+  pub head_takes : (c : Core) (f : Func) (h : Head) (xs : List Value) (Ss : Parts) → GlobalsMatch base c.globals → next_atom base ≡ 0 → HeadIs tests base f h → KindsAre xs Ss → takes (env tests right ds base subs loose funcs w) (width_over (outside c) f.params 0) f.formals xs ≡ kinds_eq (kinds h.signature.formals) (kinds Ss)
   head_takes c f h xs Ss m z i k =
       takes_by i.params.1 (width_over (outside c) f.params 0)
       (λ t W e. kind_is tests (types_among base) (width_over (outside c) f.params 0) (in_names i.params.1)
       (λ name T q. ap (option_map closed) (types_back tests f.params [] base i.params name T i.params_are q))
-      (λ d v q. subst (λ n. polynomial d (λ name. width_over (outside c) f.params n name) ≡ Some v.poly) z (formal_width tests (outside c) f.params base i.before i.params d v (outside_is tests base gv c m) i.params_new i.params_are q)) t false W e)
+      (λ d v q. subst (λ n. polynomial d (λ name. width_over (outside c) f.params n name) ≡ Some v.poly) z (formal_width tests (outside c) f.params base i.before i.params d v (outside_is tests base c m) i.params_new i.params_are q)) t false W e)
       f.formals i.formals xs Ss i.formals_are k
       ∙ ap (λ (y : Head). kinds_eq (kinds y.signature.formals) (kinds Ss)) i.is
 
@@ -215,21 +214,21 @@ module _ (tests : Tests) (right : IsRight tests) (ds : List Decl) (base : List E
   pub record Chose (f : Numbers) (n : ℕ) (gs : List Func) (name : List ℕ) (xs : List Value) (chosen : Chosen) : Type 0 where
     pub func : Func
     pub head : Head
-    pub found_so : overload (env tests right ds base gv subs loose funcs w) f n gs name xs ≡ Some (record { id = chosen.number; func = func })
+    pub found_so : overload (env tests right ds base subs loose funcs w) f n gs name xs ≡ Some (record { id = chosen.number; func = func })
     pub signature_is : head.signature ≡ chosen.signature
     pub judged : signature_rule tests base func ≡ Ok head
     pub tree : TreeFunc
     pub body : body_rule tests subs head ≡ Ok tree
     pub tree_is : slice_get funcs chosen.number ≡ Some tree
 
-  chose_by : (b : Bool) (c : Core) (n : ℕ) (g : Func) (gs : List Func) (h : Head) (t : TreeFunc) (name : List ℕ) (xs : List Value) (chosen : Chosen) (o : Option Chosen) → (bytes_eq g.name.text name && takes (env tests right ds base gv subs loose funcs w) (width_over (outside c) g.params 0) g.formals xs) ≡ b → signature_rule tests base g ≡ Ok h → body_rule tests subs h ≡ Ok t → slice_get funcs n ≡ Some t →
+  chose_by : (b : Bool) (c : Core) (n : ℕ) (g : Func) (gs : List Func) (h : Head) (t : TreeFunc) (name : List ℕ) (xs : List Value) (chosen : Chosen) (o : Option Chosen) → (bytes_eq g.name.text name && takes (env tests right ds base subs loose funcs w) (width_over (outside c) g.params 0) g.formals xs) ≡ b → signature_rule tests base g ≡ Ok h → body_rule tests subs h ≡ Ok t → slice_get funcs n ≡ Some t →
       cond b (Some (record { number = n; signature = h.signature })) o ≡ Some chosen → (o ≡ Some chosen → Chose (outside c) (n + 1) gs name xs chosen) → Chose (outside c) n (g ∷ gs) name xs chosen
   chose_by true c n g gs h t name xs chosen o e j k s q next =
       subst (λ (z : Chosen). Chose (outside c) n (g ∷ gs) name xs z) (some_same (record { number = n; signature = h.signature }) chosen q)
-      (record { func = g; head = h; found_so = ap (λ b. cond b (Some (record { id = n; func = g })) (overload (env tests right ds base gv subs loose funcs w) (outside c) (n + 1) gs name xs)) e; signature_is = refl; judged = j; tree = t; body = k; tree_is = s })
+      (record { func = g; head = h; found_so = ap (λ b. cond b (Some (record { id = n; func = g })) (overload (env tests right ds base subs loose funcs w) (outside c) (n + 1) gs name xs)) e; signature_is = refl; judged = j; tree = t; body = k; tree_is = s })
   chose_by false c n g gs h t name xs chosen o e j k s q next =
       let r = next q in
-      record { func = r.func; head = r.head; found_so = ap (λ b. cond b (Some (record { id = n; func = g })) (overload (env tests right ds base gv subs loose funcs w) (outside c) (n + 1) gs name xs)) e ∙ r.found_so; signature_is = r.signature_is; judged = r.judged; tree = r.tree; body = r.body; tree_is = r.tree_is }
+      record { func = r.func; head = r.head; found_so = ap (λ b. cond b (Some (record { id = n; func = g })) (overload (env tests right ds base subs loose funcs w) (outside c) (n + 1) gs name xs)) e ∙ r.found_so; signature_is = r.signature_is; judged = r.judged; tree = r.tree; body = r.body; tree_is = r.tree_is }
 
   after_one : (n : ℕ) → suc n ≡ n + 1
   after_one n = omega arith
@@ -240,7 +239,7 @@ module _ (tests : Tests) (right : IsRight tests) (ds : List Decl) (base : List E
   later_place : (m n : ℕ) → suc m + n ≡ m + suc n
   later_place m n = omega arith
 
-  pub chose : (c : Core) (n : ℕ) (gs : List Func) (hs : List Head) (ts : List TreeFunc) (name : List ℕ) (xs : List Value) (Ss : Parts) (chosen : Chosen) → GlobalsMatch base gv c.globals → next_atom base ≡ 0 → signatures_rule tests base gs ≡ Ok hs → bodies_rule tests subs hs ≡ Ok ts → ((m : ℕ) → slice_get ts m ≡ slice_get funcs (m + n)) → KindsAre xs Ss → ShapedParts (types_in base) Ss → ((f : Func) (h : Head) → signature_rule tests base f ≡ Ok h → ShapedParts (types_in base) h.signature.formals) →
+  pub chose : (c : Core) (n : ℕ) (gs : List Func) (hs : List Head) (ts : List TreeFunc) (name : List ℕ) (xs : List Value) (Ss : Parts) (chosen : Chosen) → GlobalsMatch base c.globals → next_atom base ≡ 0 → signatures_rule tests base gs ≡ Ok hs → bodies_rule tests subs hs ≡ Ok ts → ((m : ℕ) → slice_get ts m ≡ slice_get funcs (m + n)) → KindsAre xs Ss → ShapedParts (types_in base) Ss → ((f : Func) (h : Head) → signature_rule tests base f ≡ Ok h → ShapedParts (types_in base) h.signature.formals) →
       choose_from n name Ss (signatures hs) ≡ Some chosen → Chose (outside c) n gs name xs chosen
   chose c n [] hs ts name xs Ss chosen m z hr br at k shaped formals q = none_some chosen (subst (λ l. choose_from n name Ss (signatures l) ≡ Some chosen) (sym (ok_ok [] hs hr)) q)
   chose c n (g ∷ gs) hs ts name xs Ss chosen m z hr br at k shaped formals q =
@@ -253,7 +252,7 @@ module _ (tests : Tests) (right : IsRight tests) (ds : List Decl) (base : List E
       let bs = bind_ok (bodies_rule tests subs r.value) _ ts b.then in
       let at2 : (i : ℕ) → slice_get (b.value ∷ bs.value) i ≡ slice_get funcs (i + n) = λ i. subst (λ l. slice_get l i ≡ slice_get funcs (i + n)) (sym (ok_ok (b.value ∷ bs.value) ts bs.then)) (at i) in
       let i = head_is tests base g h.value h.first in
-      let same : (bytes_eq g.name.text name && takes (env tests right ds base gv subs loose funcs w) (width_over (outside c) g.params 0) g.formals xs) ≡ (bytes_eq h.value.signature.name name && same_kinds h.value.signature.formals Ss) =
+      let same : (bytes_eq g.name.text name && takes (env tests right ds base subs loose funcs w) (width_over (outside c) g.params 0) g.formals xs) ≡ (bytes_eq h.value.signature.name name && same_kinds h.value.signature.formals Ss) =
       ap (λ y. bytes_eq g.name.text name && y) (head_takes c g h.value xs Ss m z i k) ∙ ap (λ (y : Head). bytes_eq y.signature.name name && kinds_eq (kinds h.value.signature.formals) (kinds Ss)) i.is
       ∙ ap (λ y. bytes_eq h.value.signature.name name && y) (sym (all_by_names (types_in base) (well_declared base w) h.value.signature.formals Ss (formals g h.value h.first) shaped)) in
       chose_by (bytes_eq h.value.signature.name name && same_kinds h.value.signature.formals Ss) c n g gs h.value b.value name xs chosen (choose_from (suc n) name Ss (signatures r.value)) same h.first b.first (sym (at2 0 ∙ ap (slice_get funcs) (first_place n))) q2

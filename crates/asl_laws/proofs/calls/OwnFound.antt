@@ -22,6 +22,7 @@ use Rattle.asl_rules.specs.expressions.Calls.{Replacing, Called, replaced_by, wi
 use Rattle.asl_rules.specs.statements.Acting.{Done as StmtDone}
 use Rattle.asl_rules.specs.statements.Stmts.{invoked, invoke_rule}
 use Rattle.asl_rules.specs.expressions.Exprs.{found}
+use Rattle.asl_rules.specs.declarations.Programs.{funcs_of, Head, signatures_rule, signatures, bodies_rule}
 use Rattle.asl_rules.specs.values.Values.{Value}
 use Rattle.asl_rules.specs.runs.States.{Core}
 use Rattle.asl_rules.specs.private.Agreement.{types_in, Agrees}
@@ -30,9 +31,6 @@ use Rattle.asl_rules.specs.runs.Forms.{eval_all}
 use Rattle.asl_rules.specs.runs.Evaluation.{meaning}
 use Rattle.asl_rules.specs.private.TypedMeaning.{BareCore, Runs, tree_meaning}
 use Rattle.asl_rules.specs.private.Erasure.{erased}
-use Rattle.asl_rules.specs.declarations.Environments.{funcs_of}
-use Rattle.asl_rules.specs.declarations.Signatures.{Head, signatures_rule, bodies_rule, signatures}
-use Rattle.asl_rules.specs.types.Closed.{Assignment}
 use Rattle.asl_rules.proofs.basics.Inversions.{ok_ok, err_ok, bind_ok, then_ok, found_ok}
 use Rattle.asl_rules.proofs.scopes.Naming.{WellNamed, well_declared, scope_good}
 use Rattle.asl_laws.proofs.scopes.WellTyped.{FormedSubs}
@@ -65,16 +63,16 @@ gave K P Q R (Halt e c h) t f w = tt
 gave K P Q R (Done x c h) (Thrown y d k) f w = absurd w
 gave K P Q R (Done x c h) (Halt e d k) f w = absurd w
 
-module _ (tests : Tests) (right : IsRight tests) (ds : List Decl) (base : List Entry) (gv : Assignment) (out : NamesOutside base) (loose : Bool) (heads : List Head) (trees : List TreeFunc) (w : WellNamed base) (s : FormedSubs tests right (types_in base) (well_declared base w) (signatures heads))
+module _ (tests : Tests) (right : IsRight tests) (ds : List Decl) (base : List Entry) (out : NamesOutside base) (loose : Bool) (heads : List Head) (trees : List TreeFunc) (w : WellNamed base) (s : FormedSubs tests right (types_in base) (well_declared base w) (signatures heads))
     (heads_are : signatures_rule tests base (funcs_of ds) ≡ Ok heads) (bodies : bodies_rule tests (signatures heads) heads ≡ Ok trees) where
   abbrev subs : List Signature
   subs = signatures heads
 
-  found_so : (H : Here) (span : Span) (name : List ℕ) (ps : List Expr) (os : List Operand) (r : Replacing) (ys xs : List Value) (c : Core) (q : Chosen) → choose name (types_of os) subs ≡ Some q → AllFormed tests right ds base gv subs loose trees w (types_of os) → AllIn (types_in base) H.present (types_of os) xs → At tests base gv subs loose H c →
-      (k : ParamsAsked tests right base gv subs loose H span q.signature ps os r) → AllGive tests right base gv subs loose H k.asked ys → FindsOwn (over_names tests ds base) span name q.number r.places ys xs c
+  found_so : (H : Here) (span : Span) (name : List ℕ) (ps : List Expr) (os : List Operand) (r : Replacing) (ys xs : List Value) (c : Core) (q : Chosen) → choose name (types_of os) subs ≡ Some q → AllFormed tests right ds base subs loose trees w (types_of os) → AllIn (types_in base) H.present (types_of os) xs → At tests base subs loose H c →
+      (k : ParamsAsked tests right base subs loose H span q.signature ps os r) → AllGive tests right base subs loose H k.asked ys → FindsOwn (over_names tests ds base) span name q.number r.places ys xs c
   found_so H span name ps os r ys xs c q is formed_os in_os at k gives =
-      let m = chose tests right ds base gv subs loose trees w c 0 (funcs_of ds) heads trees name xs (types_of os) q at.agrees.globals (outside_atoms base out) heads_are bodies (λ n. ap (slice_get trees) (itself_more n))
-      (kinds_are tests right ds base gv out loose heads trees w s heads_are bodies H.present os xs in_os) (all_shaped tests right ds base gv out loose heads trees w s heads_are bodies (types_of os) formed_os) (head_formals tests right ds base gv out loose heads trees w s heads_are bodies) is in
+      let m = chose tests right ds base subs loose trees w c 0 (funcs_of ds) heads trees name xs (types_of os) q at.agrees.globals (outside_atoms base out) heads_are bodies (λ n. ap (slice_get trees) (itself_more n))
+      (kinds_are tests right ds base out loose heads trees w s heads_are bodies H.present os xs in_os) (all_shaped tests right ds base out loose heads trees w s heads_are bodies (types_of os) formed_os) (head_formals tests right ds base out loose heads trees w s heads_are bodies) is in
       let i = head_is tests base m.func m.head m.judged in
       let po = k.gives m.func m.head ys xs c i m.signature_is at.agrees.globals gives in_os in
       record { func = m.func; is_found = m.found_so; params = po.params; params_are = po.params_are; tree_has = po.widths_are }
@@ -86,29 +84,29 @@ module _ (tests : Tests) (right : IsRight tests) (ds : List Decl) (base : List E
   abbrev trees_given : List Tree → List Tree → BareCore → Runs (List Value × List Value)
   trees_given ts us d = eval_all ts [] d (λ ys d1. eval_all us [] d1 (λ xs d2. Ret (ys, xs) d2))
 
-  both_found : (H : Here) (span : Span) (i : Ident) (ps es : List Expr) (os : List Operand) (c : Core) (q : Chosen) (r : Replacing) → operands (map (found tests) es) H.scope ≡ Ok os → choose i.text (types_of os) H.scope.subs ≡ Some q → widths_rule span q.signature (map (found tests) ps) os H.scope ≡ Ok r → At tests base gv subs loose H c →
-      Same tests right base gv subs loose H (Finds span i.text q.number r.places) (both_given ps es c) (trees_given r.trees (trees_in os) (erased c))
+  both_found : (H : Here) (span : Span) (i : Ident) (ps es : List Expr) (os : List Operand) (c : Core) (q : Chosen) (r : Replacing) → operands (map (found tests) es) H.scope ≡ Ok os → choose i.text (types_of os) H.scope.subs ≡ Some q → widths_rule span q.signature (map (found tests) ps) os H.scope ≡ Ok r → At tests base subs loose H c →
+      Same tests right base subs loose H (Finds span i.text q.number r.places) (both_given ps es c) (trees_given r.trees (trees_in os) (erased c))
   both_found H span i ps es os c q r ops is widths a =
       let is2 : choose i.text (types_of os) subs ≡ Some q = subst (λ z. choose i.text (types_of os) z ≡ Some q) a.subs_are is in
-      let formed_os = operands_formed tests right ds base gv subs loose trees w es H.scope os (scope_good H.present base gv H.scope.names c w a.agrees) (subst (FormedSubs tests right (types_in base) (well_declared base w)) (sym a.subs_are) s) ops in
-      let shaped = all_shaped tests right ds base gv out loose heads trees w s heads_are bodies (types_of os) formed_os in
-      let asks = params_asked tests right base gv subs loose H span q.signature ps os r (outside_atoms base out) (outside_over base out Never)
-      (chosen_kinds tests right ds base gv out loose heads trees w s heads_are bodies i.text (types_of os) q shaped is2) shaped widths in
-      all_same tests right base gv subs loose H (Finds span i.text q.number r.places) ps r.trees asks.asked [] c (λ ys c1. eval_all es [] c1 (λ xs c2. Ret (ys, xs) c2)) (λ ys d1. eval_all (trees_in os) [] d1 (λ xs d2. Ret (ys, xs) d2)) asks.asks a
-      (λ ys c1 y a1. all_same tests right base gv subs loose H (Finds span i.text q.number r.places) es (trees_in os) (asked_of tests right base gv subs loose os) [] c1 (λ xs c2. Ret (ys, xs) c2) (λ xs d2. Ret (ys, xs) d2) (operands_asked tests right base gv subs loose H.scope es os ops) a1
-      (λ xs c2 x a2. (refl, found_so H span i.text ps os r ys xs c2 q is2 formed_os (all_in tests right base gv subs loose H os xs x) a2 asks y)))
+      let formed_os = operands_formed tests right ds base subs loose trees w es H.scope os (scope_good H.present base H.scope.names c w a.agrees) (subst (FormedSubs tests right (types_in base) (well_declared base w)) (sym a.subs_are) s) ops in
+      let shaped = all_shaped tests right ds base out loose heads trees w s heads_are bodies (types_of os) formed_os in
+      let asks = params_asked tests right base subs loose H span q.signature ps os r (outside_atoms base out) (outside_over base out Never)
+      (chosen_kinds tests right ds base out loose heads trees w s heads_are bodies i.text (types_of os) q shaped is2) shaped widths in
+      all_same tests right base subs loose H (Finds span i.text q.number r.places) ps r.trees asks.asked [] c (λ ys c1. eval_all es [] c1 (λ xs c2. Ret (ys, xs) c2)) (λ ys d1. eval_all (trees_in os) [] d1 (λ xs d2. Ret (ys, xs) d2)) asks.asks a
+      (λ ys c1 y a1. all_same tests right base subs loose H (Finds span i.text q.number r.places) es (trees_in os) (asked_of tests right base subs loose os) [] c1 (λ xs c2. Ret (ys, xs) c2) (λ xs d2. Ret (ys, xs) d2) (operands_asked tests right base subs loose H.scope es os ops) a1
+      (λ xs c2 x a2. (refl, found_so H span i.text ps os r ys xs c2 q is2 formed_os (all_in tests right base subs loose H os xs x) a2 asks y)))
 
-  module _ (all : (d : ℕ) → Meets (our tests base gv subs loose) (meaning (over_names tests ds base) d) (tree_meaning (program tests right ds base gv subs loose trees w) d)) where
+  module _ (all : (d : ℕ) → Meets (our tests base subs loose) (meaning (over_names tests ds base) d) (tree_meaning (program tests right ds base subs loose trees w) d)) where
     call_finds : (H : Here) (span : Span) (i : Ident) (ps es : List Expr) (os : List Operand) (c : Core) (q : Chosen) (r : Replacing) → routine_named i.text ≡ None → operands (map (found tests) es) H.scope ≡ Ok os → choose i.text (types_of os) H.scope.subs ≡ Some q → widths_rule span q.signature (map (found tests) ps) os H.scope ≡ Ok r →
-        At tests base gv subs loose H c → CallFinds (over_names tests ds base) span i.text ps es (own q.number) r.places c
+        At tests base subs loose H c → CallFinds (over_names tests ds base) span i.text ps es (own q.number) r.places c
     call_finds H span i ps es os c q r none ops is widths a d h =
-        gave (our tests base gv subs loose).halted (λ v c1. FindsCallee (over_names tests ds base) span i.text (own q.number) r.places v.0 v.1 c1) (Finds span i.text q.number r.places) (Throws tests right base gv subs loose H)
-        (run (meaning (over_names tests ds base) d) (both_given ps es c) h) (run (tree_meaning (program tests right ds base gv subs loose trees w) d) (trees_given r.trees (trees_in os) (erased c)) h) (λ v z c1 f. (none, f))
-        (twins_run (our tests base gv subs loose) (meaning (over_names tests ds base) d) (tree_meaning (program tests right ds base gv subs loose trees w) d) (all d) (Finds span i.text q.number r.places) (Throws tests right base gv subs loose H) (both_given ps es c) (trees_given r.trees (trees_in os) (erased c)) h
+        gave (our tests base subs loose).halted (λ v c1. FindsCallee (over_names tests ds base) span i.text (own q.number) r.places v.0 v.1 c1) (Finds span i.text q.number r.places) (Throws tests right base subs loose H)
+        (run (meaning (over_names tests ds base) d) (both_given ps es c) h) (run (tree_meaning (program tests right ds base subs loose trees w) d) (trees_given r.trees (trees_in os) (erased c)) h) (λ v z c1 f. (none, f))
+        (twins_run (our tests base subs loose) (meaning (over_names tests ds base) d) (tree_meaning (program tests right ds base subs loose trees w) d) (all d) (Finds span i.text q.number r.places) (Throws tests right base subs loose H) (both_given ps es c) (trees_given r.trees (trees_in os) (erased c)) h
         (both_found H span i ps es os c q r ops is widths a))
 
     -- the trees of functions and of procedures
-    own_finds : (H : Here) (S : Typed) (span : Span) (i : Ident) (ps es : List Expr) (os : List Operand) (c : Core) → routine_named i.text ≡ None → operands (map (found tests) es) H.scope ≡ Ok os → function_of tests span i (map (found tests) ps) os H.scope None ≡ Ok S → At tests base gv subs loose H c →
+    own_finds : (H : Here) (S : Typed) (span : Span) (i : Ident) (ps es : List Expr) (os : List Operand) (c : Core) → routine_named i.text ≡ None → operands (map (found tests) es) H.scope ≡ Ok os → function_of tests span i (map (found tests) ps) os H.scope None ≡ Ok S → At tests base subs loose H c →
         ExprChosen (over_names tests ds base) (ex.Call span i ps es) S.tree c
     own_finds H S span i ps es os c none ops h a =
         let f = bind_ok (rules.chosen span i os H.scope.subs) _ S h in
@@ -146,12 +144,12 @@ module _ (tests : Tests) (right : IsRight tests) (ds : List Decl) (base : List E
         named (Thrown x c1 m) = tt
         named (Halt e c1 m) = tt
 
-    by_routine : (H : Here) (S : Typed) (span : Span) (i : Ident) (ps es : List Expr) (os : List Operand) (o : Option Routine) (c : Core) → routine_named i.text ≡ o → operands (map (found tests) es) H.scope ≡ Ok os → function_of tests span i (map (found tests) ps) os H.scope o ≡ Ok S → At tests base gv subs loose H c →
+    by_routine : (H : Here) (S : Typed) (span : Span) (i : Ident) (ps es : List Expr) (os : List Operand) (o : Option Routine) (c : Core) → routine_named i.text ≡ o → operands (map (found tests) es) H.scope ≡ Ok os → function_of tests span i (map (found tests) ps) os H.scope o ≡ Ok S → At tests base subs loose H c →
         ExprChosen (over_names tests ds base) (ex.Call span i ps es) S.tree c
     by_routine H S span i ps es os (Some r) c name ops h a = library_finds H S span i ps es os r c name h
     by_routine H S span i ps es os None c name ops h a = own_finds H S span i ps es os c name ops h a
 
-    pub function_finds : (H : Here) (S : Typed) (span : Span) (i : Ident) (ps es : List Expr) (c : Core) → function_rule tests span i (map (found tests) ps) (map (found tests) es) H.scope ≡ Ok S → At tests base gv subs loose H c → ExprChosen (over_names tests ds base) (ex.Call span i ps es) S.tree c
+    pub function_finds : (H : Here) (S : Typed) (span : Span) (i : Ident) (ps es : List Expr) (c : Core) → function_rule tests span i (map (found tests) ps) (map (found tests) es) H.scope ≡ Ok S → At tests base subs loose H c → ExprChosen (over_names tests ds base) (ex.Call span i ps es) S.tree c
     function_finds H S span i ps es c h a =
         let b = bind_ok (call_begun i (map (found tests) es) H.scope) _ S h in
         let g = bind_ok (operands (map (found tests) es) H.scope) _ b.value b.first in
@@ -159,7 +157,7 @@ module _ (tests : Tests) (right : IsRight tests) (ds : List Decl) (base : List E
         by_routine H S span i ps es b.value (routine_named i.text) c refl (g.first ∙ n.then) b.then a
 
     by_procedure : (j : StmtClaim) (span : Span) (i : Ident) (ps es : List Expr) (os : List Operand) (c : Core) (o : Option Routine) (p : Called) → routine_named i.text ≡ o → operands (map (found tests) es) j.body.scope ≡ Ok os → procedure_of tests span i (map (found tests) ps) os j.body.scope o ≡ Ok p → invoked span p j.body.scope.names ≡ j.done →
-        At tests base gv subs loose (here tests right ds base gv subs loose trees w j) c → StmtChosen (over_names tests ds base) (Agrees base gv j.body.scope.names j.present) (st.Invoke span i ps es) j.done.act c
+        At tests base subs loose (here tests right ds base subs loose trees w j) c → StmtChosen (over_names tests ds base) (Agrees base j.body.scope.names j.present) (st.Invoke span i ps es) j.done.act c
     by_procedure j span i ps es os c (Some r) p name ops h e a = err_ok _ p (then_ok (routine_taken span r os) _ p h).then
     by_procedure j span i ps es os c None p name ops h e a =
         let G = j.body.scope in
@@ -178,10 +176,10 @@ module _ (tests : Tests) (right : IsRight tests) (ds : List Decl) (base : List E
           trees_from r.value.trees,
           trees_of os,
           ap (λ (z : StmtDone). z.act) (sym done_is),
-          call_finds (here tests right ds base gv subs loose trees w j) span i ps es os c f.value r.value name ops (found_ok (choose i.text (types_of os) G.subs) T09 span f.value f.first) r.first a,
+          call_finds (here tests right ds base subs loose trees w j) span i ps es os c f.value r.value name ops (found_ok (choose i.text (types_of os) G.subs) T09 span f.value f.first) r.first a,
         )
 
-    pub procedure_finds : (j : StmtClaim) (span : Span) (i : Ident) (ps es : List Expr) (c : Core) → invoke_rule tests span i ps es j.body.scope ≡ Ok j.done → At tests base gv subs loose (here tests right ds base gv subs loose trees w j) c → StmtChosen (over_names tests ds base) (Agrees base gv j.body.scope.names j.present) (st.Invoke span i ps es) j.done.act c
+    pub procedure_finds : (j : StmtClaim) (span : Span) (i : Ident) (ps es : List Expr) (c : Core) → invoke_rule tests span i ps es j.body.scope ≡ Ok j.done → At tests base subs loose (here tests right ds base subs loose trees w j) c → StmtChosen (over_names tests ds base) (Agrees base j.body.scope.names j.present) (st.Invoke span i ps es) j.done.act c
     procedure_finds j span i ps es c h a =
         let G = j.body.scope in
         let p = bind_ok (procedure_rule tests span i (map (found tests) ps) (map (found tests) es) G) _ j.done h in

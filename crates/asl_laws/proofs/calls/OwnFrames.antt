@@ -21,11 +21,11 @@ use Rattle.asl_rules.specs.statements.Locals.{itself}
 use Rattle.asl_rules.specs.types.Writing.{Written}
 use Rattle.asl_rules.specs.expressions.Exprs.{written}
 use Rattle.asl_rules.specs.declarations.Declarations.{in_names}
-use Rattle.asl_rules.specs.declarations.Signatures.{formals_free, formals_rule, with_formals, types_in as list_types}
+use Rattle.asl_rules.specs.declarations.Programs.{formals_free, formals_rule, with_formals, types_in as list_types}
 use Rattle.asl_rules.specs.types.Numbers.{Numbers}
 use Rattle.asl_rules.specs.runs.States.{of_type, Core}
 use Rattle.asl_rules.specs.private.Belonging.{has_type}
-use Rattle.asl_rules.specs.private.Agreement.{types_in, CountsAs, Agrees, SameOutside}
+use Rattle.asl_rules.specs.private.Agreement.{types_in, CountsAs, Agrees}
 use Rattle.asl_rules.specs.runs.Plans.{Pure as PureOf, Good}
 use Rattle.asl_rules.specs.runs.Pures as pures
 use Rattle.asl_rules.specs.runs.Pures.{there}
@@ -63,18 +63,12 @@ whole (exception_with own s n xs) = pos 0
 whole (tuple_with xs) = pos 0
 whole (array_with k xs) = pos 0
 
--- the values of a frame in order: their atoms are the even numbers, and the others stand for what they stand for elsewhere
-abbrev pub integers_of : Assignment → List Value → Assignment
-integers_of a [] n = a n
-integers_of a (x ∷ xs) zero = whole x
-integers_of a (x ∷ xs) (suc zero) = a 1
-integers_of a (x ∷ xs) (suc (suc n)) = integers_of (λ m. a (suc (suc m))) xs n
-
-pub outside_kept : (a : Assignment) (xs : List Value) → SameOutside (integers_of a xs) a
-outside_kept a [] n o = refl
-outside_kept a (x ∷ xs) zero o = absurd o
-outside_kept a (x ∷ xs) (suc zero) o = refl
-outside_kept a (x ∷ xs) (suc (suc n)) o = outside_kept (λ m. a (suc (suc m))) xs n o
+-- the values of a frame in order: their atoms are the even numbers
+abbrev pub integers_of : List Value → Assignment
+integers_of [] n = pos 0
+integers_of (x ∷ xs) zero = whole x
+integers_of (x ∷ xs) (suc zero) = pos 0
+integers_of (x ∷ xs) (suc (suc n)) = integers_of xs n
 
 -- integers among these values have theirs at the atoms from m
 abbrev pub Follows : Assignment → ℕ → List Value → Type 0
@@ -87,10 +81,9 @@ two_on n m = omega arith
 zero_on : (m : ℕ) → 0 + m ≡ m
 zero_on m = omega arith
 
-pub follows : (a b : Assignment) (m : ℕ) (xs : List Value) → ((n : ℕ) → a (n + m) ≡ integers_of b xs n) → Follows a m xs
-follows a b m [] h = tt
-follows a b m (x ∷ xs) h =
-    (λ z e. sym (ap a (zero_on m)) ∙ h 0 ∙ ap whole e, follows a (λ n. b (suc (suc n))) (m + 2) xs (λ n. ap a (two_on n m) ∙ h (suc (suc n))))
+pub follows : (a : Assignment) (m : ℕ) (xs : List Value) → ((n : ℕ) → a (n + m) ≡ integers_of xs n) → Follows a m xs
+follows a m [] h = tt
+follows a m (x ∷ xs) h = (λ z e. sym (ap a (zero_on m)) ∙ h 0 ∙ ap whole e, follows a (m + 2) xs (λ n. ap a (two_on n m) ∙ h (suc (suc n))))
 
 pub viewed_int : (C : Closed) (z : ℤ) → viewed C (int z) ≡ int z
 viewed_int (cl.named name supers T) z = viewed_int T z
@@ -130,24 +123,24 @@ taken_more base names before e t name f h =
     let p = taken_apart e.name name before h in
     free_from (standing_of name (names ++ e ∷ [])) (none_snoc names e name (absent_is (standing_of name names) (t name f p.0)) p.1)
 
-module _ (tests : Tests) (right : IsRight tests) (ds : List Decl) (base : List Entry) (gv : Assignment) (subs : List Signature) (loose : Bool) (funcs : List TreeFunc) (w : WellNamed base) where
+module _ (tests : Tests) (right : IsRight tests) (ds : List Decl) (base : List Entry) (subs : List Signature) (loose : Bool) (funcs : List TreeFunc) (w : WellNamed base) where
   -- ---- one more name
 
   pub record Next (names : List Entry) (av : Assignment) (c : Core) (name : List ℕ) (T : Ty) (k : Option Counted) (y : Value) (r : PureOf Core) : Type 0 where
     pub state : Core
     pub is : r ≡ Good state
-    pub agrees : Agrees base gv (names ++ fixed name T k ∷ []) av state
+    pub agrees : Agrees base (names ++ fixed name T k ∷ []) av state
     pub erased_so : erased state ≡ with_next (y ∷ []) (erased c)
     pub around_is : around_of state ≡ around_of c
 
-  pub declare_next : (span : Span) (name : List ℕ) (names : List Entry) (av : Assignment) (c : Core) (T : Ty) (k : Option Counted) (x : Value) → Agrees base gv names av c → is_free name names ≡ true → WellFormed (types_in base) T → has_type av x T ≡ true → Built (types_in base) x → CountsAs av k (viewed (type_with T av) x) →
+  pub declare_next : (span : Span) (name : List ℕ) (names : List Entry) (av : Assignment) (c : Core) (T : Ty) (k : Option Counted) (x : Value) → Agrees base names av c → is_free name names ≡ true → WellFormed (types_in base) T → has_type av x T ≡ true → Built (types_in base) x → CountsAs av k (viewed (type_with T av) x) →
       Next names av c name T k (seen_as T x) (declare span name false (Some (of_type (type_with T av))) x c)
   declare_next span name names av c T k x a f wf h b q =
       let C = type_with T av in
       record {
         state = declared name (viewed C x) (of_type C) false c;
         is = ap (λ t. pures.◌>>=◌ (there span (if t then Some (viewed C x) else None)) (λ y. Good (declared name y (of_type C) false c))) h;
-        agrees = declared_agrees base gv names av c (fixed name T k) (viewed C x) (of_type C) false a f (refl, refl, λ m. no m)
+        agrees = declared_agrees base names av c (fixed name T k) (viewed C x) (of_type C) false a f (refl, refl, λ m. no m)
             (record { name_is = refl; under_is = refl; mutable_is = refl; well_formed = wf; belongs = (viewed_has C x h, viewed_built (types_in base) C x b, viewed_twice C x); known = tt; counts = q });
         erased_so = erased_declared name (viewed C x) (of_type C) false c ∙ ap (λ y. with_next (y ∷ []) (erased c)) (sym (seen_is av T x));
         around_is = refl;
@@ -172,7 +165,7 @@ module _ (tests : Tests) (right : IsRight tests) (ds : List Decl) (base : List E
   pub record Bound (span : Span) (fs : List Formal) (Ts : Parts) (xs : List Value) (names : List Entry) (av : Assignment) (c : Core) (r : PureOf Core) : Type 0 where
     pub state : Core
     pub is : r ≡ Good state
-    pub agrees : Agrees base gv (with_formals fs Ts names) av state
+    pub agrees : Agrees base (with_formals fs Ts names) av state
     pub seen : List Value
     pub seen_are : formals_seen span (list_types Ts) xs ≡ Good seen
     pub erased_so : erased state ≡ with_next seen (erased c)
@@ -183,32 +176,32 @@ module _ (tests : Tests) (right : IsRight tests) (ds : List Decl) (base : List E
   none_next (x ∷ xs) = ap (λ l. x ∷ l) (none_next xs)
 
   -- where the types of the formals are those over the parameters
-  module _ (span : Span) (over : List Entry) (f : Numbers) (av : Assignment) (c0 : Core) (g : NumbersAgree f av (in_names over)) (a0 : Agrees base gv over av c0) where
-    pub formals_good : (fs : List Formal) (Ts : Parts) (xs : List Value) (names : List Entry) (before : List (List ℕ)) (c : Core) → formals_rule tests fs over ≡ Ok Ts → formals_free fs before base ≡ Ok tt → Taken base names before → Follows av (next_atom names) xs → HasAll av Ts xs → Agrees base gv names av c →
-        Bound span fs Ts xs names av c (formals_bound (env tests right ds base gv subs loose funcs w) span f fs xs c)
+  module _ (span : Span) (over : List Entry) (f : Numbers) (av : Assignment) (c0 : Core) (g : NumbersAgree f av (in_names over)) (a0 : Agrees base over av c0) where
+    pub formals_good : (fs : List Formal) (Ts : Parts) (xs : List Value) (names : List Entry) (before : List (List ℕ)) (c : Core) → formals_rule tests fs over ≡ Ok Ts → formals_free fs before base ≡ Ok tt → Taken base names before → Follows av (next_atom names) xs → HasAll av Ts xs → Agrees base names av c →
+        Bound span fs Ts xs names av c (formals_bound (env tests right ds base subs loose funcs w) span f fs xs c)
     formals_good [] Ts xs names before c h k t v i a = none_bound Ts xs (ok_ok no_part Ts h) i
       where
-        none_bound : (Ts : Parts) (xs : List Value) → no_part ≡ Ts → HasAll av Ts xs → Bound span [] Ts xs names av c (formals_bound (env tests right ds base gv subs loose funcs w) span f [] xs c)
+        none_bound : (Ts : Parts) (xs : List Value) → no_part ≡ Ts → HasAll av Ts xs → Bound span [] Ts xs names av c (formals_bound (env tests right ds base subs loose funcs w) span f [] xs c)
         none_bound no_part [] e i = record { state = c; is = refl; agrees = a; seen = []; seen_are = refl; erased_so = ap (λ xs. record (erased c) { frame = xs }) (sym (none_next (erased c).frame)); around_is = refl }
         none_bound no_part (x ∷ xs) e i = absurd i
         none_bound (part T Ts) xs e i = absurd cc
     formals_good (d ∷ fs) Ts xs names before c h k t v i a =
         let W = bind_ok (written tests d.ty false (in_names over)) _ Ts h in
         let R = bind_ok (formals_rule tests fs over) _ Ts W.then in
-        subst (λ Us. HasAll av Us xs → Bound span (d ∷ fs) Us xs names av c (formals_bound (env tests right ds base gv subs loose funcs w) span f (d ∷ fs) xs c)) (ok_ok (part W.value.ty R.value) Ts R.then)
+        subst (λ Us. HasAll av Us xs → Bound span (d ∷ fs) Us xs names av c (formals_bound (env tests right ds base subs loose funcs w) span f (d ∷ fs) xs c)) (ok_ok (part W.value.ty R.value) Ts R.then)
         (λ j. one_bound (λ Us ys ns bs c1 h1 k1 t1 v1 i1 a1. formals_good fs Us ys ns bs c1 h1 k1 t1 v1 i1 a1) W.value R.value xs W.first R.first v j) i
       where
-        one_bound : ((Us : Parts) (ys : List Value) (ns : List Entry) (bs : List (List ℕ)) (c1 : Core) → formals_rule tests fs over ≡ Ok Us → formals_free fs bs base ≡ Ok tt → Taken base ns bs → Follows av (next_atom ns) ys → HasAll av Us ys → Agrees base gv ns av c1 → Bound span fs Us ys ns av c1 (formals_bound (env tests right ds base gv subs loose funcs w) span f fs ys c1)) →
+        one_bound : ((Us : Parts) (ys : List Value) (ns : List Entry) (bs : List (List ℕ)) (c1 : Core) → formals_rule tests fs over ≡ Ok Us → formals_free fs bs base ≡ Ok tt → Taken base ns bs → Follows av (next_atom ns) ys → HasAll av Us ys → Agrees base ns av c1 → Bound span fs Us ys ns av c1 (formals_bound (env tests right ds base subs loose funcs w) span f fs ys c1)) →
             (W : Written) (Us : Parts) (xs : List Value) → written tests d.ty false (in_names over) ≡ Ok W → formals_rule tests fs over ≡ Ok Us → Follows av (next_atom names) xs → HasAll av (part W.ty Us) xs →
-            Bound span (d ∷ fs) (part W.ty Us) xs names av c (formals_bound (env tests right ds base gv subs loose funcs w) span f (d ∷ fs) xs c)
+            Bound span (d ∷ fs) (part W.ty Us) xs names av c (formals_bound (env tests right ds base subs loose funcs w) span f (d ∷ fs) xs c)
         one_bound again W Us [] h1 h2 v j = absurd j
         one_bound again W Us (x ∷ xs) h1 h2 v j =
-            let E = env tests right ds base gv subs loose funcs w in
+            let E = env tests right ds base subs loose funcs w in
             let u = then_ok (need (is_free d.name.text base && not (has_name d.name.text before)) T01 d.name.span) (formals_free fs (before ++ d.name.text ∷ []) base) tt k in
             let p = both (is_free d.name.text base) (not (has_name d.name.text before)) (need_ok (is_free d.name.text base && not (has_name d.name.text before)) T01 d.name.span tt u.first) in
             let free = t d.name.text p.0 (not_true (has_name d.name.text before) p.1) in
-            let wf = written_formed tests right (types_in base) (well_declared base w) d.ty false (in_names over) W (scope_good av base gv over c0 w a0) h1 in
-            let e : type_under (type_at E f d.ty) ≡ Some (of_type (type_with W.ty av)) = ap type_under (type_by tests right ds base gv subs loose funcs w (record { scope = in_names over; present = av; around = nothing_around }) f c0 d.ty false W g a0 h1) in
+            let wf = written_formed tests right (types_in base) (well_declared base w) d.ty false (in_names over) W (scope_good av base over c0 w a0) h1 in
+            let e : type_under (type_at E f d.ty) ≡ Some (of_type (type_with W.ty av)) = ap type_under (type_by tests right ds base subs loose funcs w (record { scope = in_names over; present = av; around = nothing_around }) f c0 d.ty false W g a0 h1) in
             let T = W.ty in
             let n = declare_next span d.name.text names av c T (itself T names) x a free wf j.0 j.1 (counts_by av (next_atom names) T x (is_integer T) refl j.0 v.0) in
             let next = fixed d.name.text T (itself T names) in

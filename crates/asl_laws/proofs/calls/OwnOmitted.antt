@@ -22,7 +22,7 @@ use Rattle.asl_rules.specs.expressions.Exprs.{width, written}
 use Rattle.asl_rules.specs.expressions.Calls as rules
 use Rattle.asl_rules.specs.expressions.Calls.{Giving, Replacing, given, polys}
 use Rattle.asl_rules.specs.declarations.Declarations.{in_names}
-use Rattle.asl_rules.specs.declarations.Signatures.{formals_rule}
+use Rattle.asl_rules.specs.declarations.Programs.{formals_rule}
 use Rattle.asl_poly.specs.Poly.{HasWidth}
 use Rattle.asl_rules.specs.private.WellFormed.{Shaped, ShapedParts}
 use Rattle.asl_rules.specs.private.Belonging.{InType}

@@ -20,11 +20,11 @@ use Rattle.asl_rules.specs.runs.Trees.{TreeFunc}
 use Rattle.asl_rules.specs.values.Members.{has_name}
 use Rattle.asl_rules.specs.expressions.Exprs.{written}
 use Rattle.asl_rules.specs.declarations.Declarations.{in_names}
-use Rattle.asl_rules.specs.declarations.Signatures.{formals_free, formals_rule, with_formals, types_in as list_types, param_written, type_or_itself, param_entry, params_rule, params_free, result_rule}
+use Rattle.asl_rules.specs.declarations.Programs.{formals_free, formals_rule, with_formals, types_in as list_types, param_written, type_or_itself, param_entry, params_rule, params_free, result_rule}
 use Rattle.asl_rules.specs.types.Numbers.{present}
 use Rattle.asl_rules.specs.runs.States.{of_type, of_value, Core, entered}
 use Rattle.asl_rules.specs.private.Belonging.{InType, has_type}
-use Rattle.asl_rules.specs.private.Agreement.{types_in, Agrees, SameOutside, GlobalsMatch, AllMatch, global_matches}
+use Rattle.asl_rules.specs.private.Agreement.{types_in, Agrees, GlobalsMatch, AllMatch, global_matches}
 use Rattle.asl_rules.specs.runs.Plans.{Pure as PureOf, Good}
 use Rattle.asl_rules.specs.runs.Pures as pures
 use Rattle.asl_rules.specs.runs.Evaluation.{declare, declared, type_under, param_value, param_under, params_bound, formals_bound, Entering, entering, under_written, result_at as keeps_at}
@@ -48,7 +48,7 @@ use Rattle.asl_laws.proofs.expressions.ExprForms.{env}
 use Rattle.asl_laws.proofs.widths.PresentNumbers.{CountedFixed, present_agree}
 use Rattle.asl_laws.proofs.values.PresentTypes.{type_present}
 use Rattle.asl_laws.proofs.calls.OwnCalls.{seen_by}
-use Rattle.asl_laws.proofs.calls.OwnFrames.{integers_of, outside_kept, Follows, follows, viewed_int, Taken, taken_more, Next, declare_next, HasAll, formals_good}
+use Rattle.asl_laws.proofs.calls.OwnFrames.{integers_of, Follows, follows, viewed_int, Taken, taken_more, Next, declare_next, HasAll, formals_good}
 use Rattle.asl_laws.proofs.expressions.Claims.{around_of}
 
 -- ---- names that count in widths can't be assigned
@@ -71,12 +71,12 @@ counted_more names name T k h n s c e q = by (standing_of n names) refl
     by None o = last (bytes_eq name n) (sym (behind names (fixed name T k ∷ []) n o) ∙ e)
     by (Some st) o = h n s c (o ∙ sym (before_is names (fixed name T k ∷ []) n st o) ∙ e) q
 
-pub none_counted : (d : List ℕ → Option Ty) (gv : Assignment) (es : List Entry) (n : List ℕ) (s : Storage) (bs : List _) → AllMatch d gv es bs → standing_of n es ≡ Some (Stored s) → s.counted ≡ None
+pub none_counted : (d : List ℕ → Option Ty) (es : List Entry) (n : List ℕ) (s : Storage) (bs : List _) → AllMatch d es bs → standing_of n es ≡ Some (Stored s) → s.counted ≡ None
 unfolding storage_in_it
-none_counted d gv [] n s bs m h = none_some (Stored s) h
-none_counted d gv (e ∷ es) n s bs m h = by e.standing (bytes_eq e.name n) bs m h (λ cs k l. none_counted d gv es n s cs k l)
+none_counted d [] n s bs m h = none_some (Stored s) h
+none_counted d (e ∷ es) n s bs m h = by e.standing (bytes_eq e.name n) bs m h (λ cs k l. none_counted d es n s cs k l)
   where
-    by : (st : Standing) (b : Bool) (bs : List _) → global_matches d gv e.name st bs (AllMatch d gv es) → cond b (Some st) (standing_of n es) ≡ Some (Stored s) → ((cs : List _) → AllMatch d gv es cs → standing_of n es ≡ Some (Stored s) → s.counted ≡ None) → s.counted ≡ None
+    by : (st : Standing) (b : Bool) (bs : List _) → global_matches d e.name st bs (AllMatch d es) → cond b (Some st) (standing_of n es) ≡ Some (Stored s) → ((cs : List _) → AllMatch d es cs → standing_of n es ≡ Some (Stored s) → s.counted ≡ None) → s.counted ≡ None
     by (Stored u) b [] m h next = absurd m
     by (Stored u) true (x ∷ bs) m h next = ap (λ (v : Storage). v.counted) (sym (ap (storage_in_it s) (some_same (Stored u) (Stored s) h))) ∙ m.0.no_atom
     by (Stored u) false (x ∷ bs) m h next = next bs m.1 h
@@ -87,13 +87,13 @@ none_counted d gv (e ∷ es) n s bs m h = by e.standing (bytes_eq e.name n) bs m
     by (Label T x) true bs m h next = absurd cc
     by (Label T x) false bs m h next = next bs m h
 
-pub counted_outside : (base : List Entry) (gv : Assignment) (bs : List _) → GlobalsMatch base gv bs → CountedFixed base
-counted_outside base gv bs m n s c e q = none_some c (sym (none_counted (types_in base) gv base n s bs m e) ∙ q)
+pub counted_outside : (base : List Entry) (bs : List _) → GlobalsMatch base bs → CountedFixed base
+counted_outside base bs m n s c e q = none_some c (sym (none_counted (types_in base) base n s bs m e) ∙ q)
 
 split_follows : (a : Assignment) (m : ℕ) (x : Value) (xs ys : List Value) → Follows a m ((x ∷ xs) ++ ys) → Follows a (m + 2) (xs ++ ys)
 split_follows a m x xs ys h = h.1
 
-module _ (tests : Tests) (right : IsRight tests) (ds : List Decl) (base : List Entry) (gv : Assignment) (subs : List Signature) (loose : Bool) (funcs : List TreeFunc) (w : WellNamed base) where
+module _ (tests : Tests) (right : IsRight tests) (ds : List Decl) (base : List Entry) (subs : List Signature) (loose : Bool) (funcs : List TreeFunc) (w : WellNamed base) where
   abbrev pub HasOption : Assignment → Option Ty → Value → Type 0
   HasOption av None x = Unit {0}
   HasOption av (Some T) x = has_type av x T ≡ true
@@ -111,8 +111,8 @@ module _ (tests : Tests) (right : IsRight tests) (ds : List Decl) (base : List E
   takes_integer (Some t) z = refl
 
   -- one parameter
-  itself_next : (span : Span) (name : List ℕ) (names : List Entry) (av : Assignment) (c : Core) (z : ℤ) → Agrees base gv names av c → is_free name names ≡ true → av (next_atom names) ≡ z →
-      Next tests right ds base gv subs loose funcs w names av c name (type_or_itself None (next_atom names)) (Some (atom_at (next_atom names))) (int z) (declare span name false (Some (of_value (int z))) (int z) c)
+  itself_next : (span : Span) (name : List ℕ) (names : List Entry) (av : Assignment) (c : Core) (z : ℤ) → Agrees base names av c → is_free name names ≡ true → av (next_atom names) ≡ z →
+      Next tests right ds base subs loose funcs w names av c name (type_or_itself None (next_atom names)) (Some (atom_at (next_atom names))) (int z) (declare span name false (Some (of_value (int z))) (int z) c)
   itself_next span name names av c z a f e =
       let n = next_atom names in
       let T = type_or_itself None n in
@@ -122,36 +122,36 @@ module _ (tests : Tests) (right : IsRight tests) (ds : List Decl) (base : List E
       record {
         state = declared name (int z) (of_value (int z)) false c;
         is = refl;
-        agrees = declared_agrees base gv names av c (fixed name T (Some (atom_at n))) (int z) (of_value (int z)) false a f (refl, refl, λ m. no m)
+        agrees = declared_agrees base names av c (fixed name T (Some (atom_at n))) (int z) (of_value (int z)) false a f (refl, refl, λ m. no m)
             (record { name_is = refl; under_is = belongs; mutable_is = refl; well_formed = integer_formed tests right (types_in base) (well_declared base w) (only_width (atom_map n)) (only_ends (atom_map n) held); belongs = belongs; known = tt; counts = atom_counts av n (int z) z refl e });
         erased_so = erased_declared name (int z) (of_value (int z)) false c;
         around_is = refl;
       }
 
-  typed_next : (span : Span) (name : List ℕ) (names : List Entry) (av : Assignment) (c : Core) (T : Ty) (z : ℤ) → Agrees base gv names av c → is_free name names ≡ true → WellFormed (types_in base) T → has_type av (int z) T ≡ true → av (next_atom names) ≡ z →
-      Next tests right ds base gv subs loose funcs w names av c name T (Some (atom_at (next_atom names))) (int z) (declare span name false (Some (of_type (type_with T av))) (int z) c)
+  typed_next : (span : Span) (name : List ℕ) (names : List Entry) (av : Assignment) (c : Core) (T : Ty) (z : ℤ) → Agrees base names av c → is_free name names ≡ true → WellFormed (types_in base) T → has_type av (int z) T ≡ true → av (next_atom names) ≡ z →
+      Next tests right ds base subs loose funcs w names av c name T (Some (atom_at (next_atom names))) (int z) (declare span name false (Some (of_type (type_with T av))) (int z) c)
   typed_next span name names av c T z a f wf h e =
       let n = next_atom names in
-      subst (λ y. Next tests right ds base gv subs loose funcs w names av c name T (Some (atom_at n)) y (declare span name false (Some (of_type (type_with T av))) (int z) c)) (seen_is av T (int z) ∙ viewed_int (type_with T av) z)
-      (declare_next tests right ds base gv subs loose funcs w span name names av c T (Some (atom_at n)) (int z) a f wf h tt
+      subst (λ y. Next tests right ds base subs loose funcs w names av c name T (Some (atom_at n)) y (declare span name false (Some (of_type (type_with T av))) (int z) c)) (seen_is av T (int z) ∙ viewed_int (type_with T av) z)
+      (declare_next tests right ds base subs loose funcs w span name names av c T (Some (atom_at n)) (int z) a f wf h tt
       (atom_counts av n (viewed (type_with T av) (int z)) z (viewed_int (type_with T av) z) e))
 
-  param_next : (span : Span) (name : List ℕ) (names : List Entry) (av : Assignment) (c : Core) (ty : Option TypeExpr) (T : Option Ty) (z : ℤ) → Agrees base gv names av c → CountedFixed names → is_free name names ≡ true → param_written tests ty names ≡ Ok T → HasOption av T (int z) → av (next_atom names) ≡ z →
-      Next tests right ds base gv subs loose funcs w names av c name (type_or_itself T (next_atom names)) (Some (atom_at (next_atom names))) (int z) (declare span name false (param_under (env tests right ds base gv subs loose funcs w) c ty (int z)) (int z) c)
+  param_next : (span : Span) (name : List ℕ) (names : List Entry) (av : Assignment) (c : Core) (ty : Option TypeExpr) (T : Option Ty) (z : ℤ) → Agrees base names av c → CountedFixed names → is_free name names ≡ true → param_written tests ty names ≡ Ok T → HasOption av T (int z) → av (next_atom names) ≡ z →
+      Next tests right ds base subs loose funcs w names av c name (type_or_itself T (next_atom names)) (Some (atom_at (next_atom names))) (int z) (declare span name false (param_under (env tests right ds base subs loose funcs w) c ty (int z)) (int z) c)
   param_next span name names av c None T z a k f h i e =
-      subst (λ U. Next tests right ds base gv subs loose funcs w names av c name (type_or_itself U (next_atom names)) (Some (atom_at (next_atom names))) (int z) (declare span name false (Some (of_value (int z))) (int z) c)) (ok_ok None T h) (itself_next span name names av c z a f e)
+      subst (λ U. Next tests right ds base subs loose funcs w names av c name (type_or_itself U (next_atom names)) (Some (atom_at (next_atom names))) (int z) (declare span name false (Some (of_value (int z))) (int z) c)) (ok_ok None T h) (itself_next span name names av c z a f e)
   param_next span name names av c (Some ty) T z a k f h i e =
       let W = bind_ok (written tests ty false (in_names names)) _ T h in
       let q = ok_ok (Some W.value.ty) T W.then in
-      let wf = written_formed tests right (types_in base) (well_declared base w) ty false (in_names names) W.value (scope_good av base gv names c w a) W.first in
-      subst (λ U. Next tests right ds base gv subs loose funcs w names av c name (type_or_itself U (next_atom names)) (Some (atom_at (next_atom names))) (int z) (declare span name false (param_under (env tests right ds base gv subs loose funcs w) c (Some ty) (int z)) (int z) c)) q
-      (subst (λ u. Next tests right ds base gv subs loose funcs w names av c name W.value.ty (Some (atom_at (next_atom names))) (int z) (declare span name false (type_under u) (int z) c)) (sym (type_present tests right ds base gv subs loose funcs w (in_names names) av c ty false W.value k a W.first))
+      let wf = written_formed tests right (types_in base) (well_declared base w) ty false (in_names names) W.value (scope_good av base names c w a) W.first in
+      subst (λ U. Next tests right ds base subs loose funcs w names av c name (type_or_itself U (next_atom names)) (Some (atom_at (next_atom names))) (int z) (declare span name false (param_under (env tests right ds base subs loose funcs w) c (Some ty) (int z)) (int z) c)) q
+      (subst (λ u. Next tests right ds base subs loose funcs w names av c name W.value.ty (Some (atom_at (next_atom names))) (int z) (declare span name false (type_under u) (int z) c)) (sym (type_present tests right ds base subs loose funcs w (in_names names) av c ty false W.value k a W.first))
       (typed_next span name names av c W.value.ty z a f wf (subst (λ U. HasOption av U (int z)) (sym q) i) e))
 
   pub record ParamsBound (names : List Entry) (after : List (List ℕ)) (av : Assignment) (xs ys : List Value) (c : Core) (r : PureOf Core) : Type 0 where
     pub state : Core
     pub is : r ≡ Good state
-    pub agrees : Agrees base gv names av state
+    pub agrees : Agrees base names av state
     pub counted : CountedFixed names
     pub taken : Taken base names after
     pub follows_on : Follows av (next_atom names) ys
@@ -163,14 +163,14 @@ module _ (tests : Tests) (right : IsRight tests) (ds : List Decl) (base : List E
   not_so false h = refl
 
   pub params_good : (span : Span) (av : Assignment) (ys : List Value) (ps : List WrittenParam) (pre : List Param) (names : List Entry) (before after : List (List ℕ)) (r : List Param × List Entry) (xs : List Value) (c : Core) → params_rule tests ps pre names ≡ Ok r → params_free ps before base ≡ Ok after → Taken base names before → CountedFixed names →
-      Follows av (next_atom names) (xs ++ ys) → HasParams av ps names xs → Agrees base gv names av c → ParamsBound r.1 after av xs ys c (params_bound (env tests right ds base gv subs loose funcs w) span ps xs c)
+      Follows av (next_atom names) (xs ++ ys) → HasParams av ps names xs → Agrees base names av c → ParamsBound r.1 after av xs ys c (params_bound (env tests right ds base subs loose funcs w) span ps xs c)
   params_good span av ys [] pre names before after r (x ∷ xs) c h k t g v i a = absurd i
   params_good span av ys [] pre names before after r [] c h k t g v i a =
       subst (λ (z : List Param × List Entry). ParamsBound z.1 after av [] ys c (Good c)) (ok_ok (pre, names) r h)
       (record { state = c; is = refl; agrees = a; counted = g; taken = subst (Taken base names) (ok_ok before after k) t; follows_on = v; erased_so = ap (λ xs. record (erased c) { frame = xs }) (sym (append_nil (erased c).frame)); around_is = refl })
   params_good span av ys (p ∷ ps) pre names before after r [] c h k t g v i a = absurd i
   params_good span av ys (p ∷ ps) pre names before after r (x ∷ xs) c h k t g v i a =
-      let E = env tests right ds base gv subs loose funcs w in
+      let E = env tests right ds base subs loose funcs w in
       let T = bind_ok (param_written tests p.ty names) _ r h in
       let z = i.0.0 in
       let j = i.1 T.value T.first in
@@ -196,8 +196,8 @@ module _ (tests : Tests) (right : IsRight tests) (ds : List Decl) (base : List E
   -- ---- a whole frame
 
   -- the frame of a caller waits
-  pub entered_agrees : (id : ℕ) (names : List Entry) (present later : Assignment) (c : Core) → SameOutside later gv → Agrees base gv names present c → Agrees base gv base later (entered id c)
-  entered_agrees id names present later c o a = record {
+  pub entered_agrees : (id : ℕ) (names : List Entry) (present later : Assignment) (c : Core) → Agrees base names present c → Agrees base base later (entered id c)
+  entered_agrees id names present later c a = record {
     locals = [];
     names_are = sym (append_nil base);
     fresh = tt;
@@ -205,36 +205,35 @@ module _ (tests : Tests) (right : IsRight tests) (ds : List Decl) (base : List E
     frame = tt;
     globals = a.globals;
     handled = tt;
-    callers = (record { locals = a.locals; present = present; fresh = a.fresh; plain = a.plain; frame = a.frame; handled = a.handled; outside = a.outside }, a.callers);
-    outside = o;
+    callers = (record { locals = a.locals; present = present; fresh = a.fresh; plain = a.plain; frame = a.frame; handled = a.handled }, a.callers);
   }
 
   -- what a frame of these parameters and formals is
   pub record Frames (span at : Span) (id : ℕ) (f : Func) (Ts : Parts) (T : Option Ty) (names : List Entry) (av : Assignment) (qs ys : List Value) (c : Core) : Type 0 where
     pub states : Entering
-    pub is : entering (env tests right ds base gv subs loose funcs w) span id f qs ys c ≡ Good states
-    pub agrees : Agrees base gv names av states.inner
+    pub is : entering (env tests right ds base subs loose funcs w) span id f qs ys c ≡ Good states
+    pub agrees : Agrees base names av states.inner
     pub around_is : around_of states.inner ≡ around_of (entered id c)
     pub formals : List Value
     pub formals_are : formals_seen span (list_types Ts) ys ≡ Good formals
     pub erased_so : erased states.inner ≡ bare.entered id (qs ++ formals) (erased c)
-    pub keeps_are : keeps_at (env tests right ds base gv subs loose funcs w) at (present states.params) f.result ≡ seen_by at av T
+    pub keeps_are : keeps_at (env tests right ds base subs loose funcs w) at (present states.params) f.result ≡ seen_by at av T
 
-  result_by : (at : Span) (ty : Option TypeExpr) (T : Option Ty) (names : List Entry) (av : Assignment) (c : Core) → result_rule tests ty names ≡ Ok T → CountedFixed names → Agrees base gv names av c → keeps_at (env tests right ds base gv subs loose funcs w) at (present c) ty ≡ seen_by at av T
+  result_by : (at : Span) (ty : Option TypeExpr) (T : Option Ty) (names : List Entry) (av : Assignment) (c : Core) → result_rule tests ty names ≡ Ok T → CountedFixed names → Agrees base names av c → keeps_at (env tests right ds base subs loose funcs w) at (present c) ty ≡ seen_by at av T
   result_by at None T names av c h k a = ap (seen_by at av) (ok_ok None T h)
   result_by at (Some ty) T names av c h k a =
       let W = bind_ok (written tests ty false (in_names names)) _ T h in
-      ap (λ o. Some (under_written at o)) (type_present tests right ds base gv subs loose funcs w (in_names names) av c ty false W.value k a W.first) ∙ ap (seen_by at av) (ok_ok (Some W.value.ty) T W.then)
+      ap (λ o. Some (under_written at o)) (type_present tests right ds base subs loose funcs w (in_names names) av c ty false W.value k a W.first) ∙ ap (seen_by at av) (ok_ok (Some W.value.ty) T W.then)
 
   pub frames_good : (span at : Span) (id : ℕ) (f : Func) (after : List (List ℕ)) (r : List Param × List Entry) (Ts : Parts) (T : Option Ty) (names : List Entry) (present : Assignment) (qs ys : List Value) (c : Core) → next_atom base ≡ 0 → params_free f.params [] base ≡ Ok after → formals_free f.formals after base ≡ Ok tt →
-      params_rule tests f.params [] base ≡ Ok r → formals_rule tests f.formals r.1 ≡ Ok Ts → result_rule tests f.result r.1 ≡ Ok T → HasParams (integers_of gv (qs ++ ys)) f.params base qs → HasAll tests right ds base gv subs loose funcs w (integers_of gv (qs ++ ys)) Ts ys → Agrees base gv names present c →
-      Frames span at id f Ts T (with_formals f.formals Ts r.1) (integers_of gv (qs ++ ys)) qs ys c
+      params_rule tests f.params [] base ≡ Ok r → formals_rule tests f.formals r.1 ≡ Ok Ts → result_rule tests f.result r.1 ≡ Ok T → HasParams (integers_of (qs ++ ys)) f.params base qs → HasAll tests right ds base subs loose funcs w (integers_of (qs ++ ys)) Ts ys → Agrees base names present c →
+      Frames span at id f Ts T (with_formals f.formals Ts r.1) (integers_of (qs ++ ys)) qs ys c
   frames_good span at id f after r Ts T names now qs ys c zero_so pf ff pr fr rr i j a =
-      let E = env tests right ds base gv subs loose funcs w in
-      let av = integers_of gv (qs ++ ys) in
-      let m = params_good span av ys f.params [] base [] after r qs (entered id c) pr pf (λ name g h. g) (counted_outside base gv c.globals a.globals)
-      (subst (λ l. Follows av l (qs ++ ys)) (sym zero_so) (follows av gv 0 (qs ++ ys) (λ n. ap av (nothing_more n)))) i (entered_agrees id names now av c (outside_kept gv (qs ++ ys)) a) in
-      let n = formals_good tests right ds base gv subs loose funcs w span r.1 (present m.state) av m.state (present_agree av base gv (in_names r.1) m.state m.counted m.agrees) m.agrees f.formals Ts ys r.1 after m.state fr ff m.taken m.follows_on j m.agrees in
+      let E = env tests right ds base subs loose funcs w in
+      let av = integers_of (qs ++ ys) in
+      let m = params_good span av ys f.params [] base [] after r qs (entered id c) pr pf (λ name g h. g) (counted_outside base c.globals a.globals)
+      (subst (λ l. Follows av l (qs ++ ys)) (sym zero_so) (follows av 0 (qs ++ ys) (λ n. ap av (nothing_more n)))) i (entered_agrees id names now av c a) in
+      let n = formals_good tests right ds base subs loose funcs w span r.1 (present m.state) av m.state (present_agree av base (in_names r.1) m.state m.counted m.agrees) m.agrees f.formals Ts ys r.1 after m.state fr ff m.taken m.follows_on j m.agrees in
       record {
         states = record { params = m.state; inner = n.state };
         is = ap (λ s. pures.◌>>=◌ s (λ c1. pures.◌>>=◌ (formals_bound E span (present c1) f.formals ys c1) (λ c2. Good (record { params = c1; inner = c2 })))) m.is ∙ ap (λ s. pures.◌>>=◌ s (λ c2. Good (record { params = m.state; inner = c2 }))) n.is;

@@ -12,7 +12,6 @@ use Rattle.asl_rules.specs.runs.States.{Core, entered}
 use Rattle.asl_rules.proofs.basics.Tests.{none_some, some_same}
 use Rattle.asl_laws.proofs.expressions.Claims.{Here, around_of, Caller, caller_at, IsCaller, Waiting, StandsOver, Bound, Stands, At, Around}
 use Rattle.asl_rules.specs.private.Agreement.{Agrees}
-use Rattle.asl_rules.specs.types.Closed.{Assignment}
 use Rattle.asl_laws.proofs.scopes.ScopesKept.{Ruled}
 use Rattle.asl_laws.specs.Soundness.{waiting}
 
@@ -51,35 +50,35 @@ itself_below Pure = refl
 itself_below Readonly = refl
 itself_below Writes = refl
 
-module _ (tests : Tests) (base : List Entry) (gv : Assignment) (subs : List Signature) (loose : Bool) where
+module _ (tests : Tests) (base : List Entry) (subs : List Signature) (loose : Bool) where
   -- here a call of the subprogram of this number stands
   pub record Opens (H : Here) (id : ℕ) : Type 0 where
     pub caller : Caller
     pub at : caller_at caller ≡ H
-    pub is_caller : IsCaller tests base gv subs loose caller id
+    pub is_caller : IsCaller tests base subs loose caller id
     pub allowed : (s : Signature) → slice_get subs id ≡ Some s → at_most s.class H.scope.class ≡ true
 
-  waits : (H : Here) (id : ℕ) (c : Core) → (k : Opens H id) → At tests base gv subs loose H c → Waiting tests base gv subs loose (record { names = c.frame; handled = c.handled }) c.callers id c.live
+  waits : (H : Here) (id : ℕ) (c : Core) → (k : Opens H id) → At tests base subs loose H c → Waiting tests base subs loose (record { names = c.frame; handled = c.handled }) c.callers id c.live
   waits H id c k a = record {
     caller = k.caller;
     is_caller = k.is_caller;
     globals = c.globals;
-    agrees = subst (λ (z : Here). Agrees base gv z.scope.names z.present (waiting c.globals (record { names = c.frame; handled = c.handled }) c.callers c.live)) (sym k.at)
-        (record { locals = a.agrees.locals; names_are = a.agrees.names_are; fresh = a.agrees.fresh; plain = a.agrees.plain; frame = a.agrees.frame; globals = a.agrees.globals; handled = a.agrees.handled; callers = a.agrees.callers; outside = a.agrees.outside });
+    agrees = subst (λ (z : Here). Agrees base z.scope.names z.present (waiting c.globals (record { names = c.frame; handled = c.handled }) c.callers c.live)) (sym k.at)
+        (record { locals = a.agrees.locals; names_are = a.agrees.names_are; fresh = a.agrees.fresh; plain = a.agrees.plain; frame = a.agrees.frame; globals = a.agrees.globals; handled = a.agrees.handled; callers = a.agrees.callers });
     subs_are = ap (λ (z : Here). z.scope.subs) k.at ∙ a.subs_are;
-    counted = subst (λ (z : Here). Bound tests base gv subs loose (Ruled z.scope.names z.scope.subs)) (sym k.at) a.counted;
+    counted = subst (λ (z : Here). Bound tests base subs loose (Ruled z.scope.names z.scope.subs)) (sym k.at) a.counted;
     around_is = a.around_is ∙ sym (ap (λ (z : Here). z.around) k.at);
   }
 
   -- in the frame that is opened
-  pub opened_stands : (H : Here) (id : ℕ) (s : Signature) (c : Core) → Opens H id → slice_get subs id ≡ Some s → At tests base gv subs loose H c → Stands tests base gv subs loose s.class (around_of (entered id c))
+  pub opened_stands : (H : Here) (id : ℕ) (s : Signature) (c : Core) → Opens H id → slice_get subs id ≡ Some s → At tests base subs loose H c → Stands tests base subs loose s.class (around_of (entered id c))
   unfolding waits
   opened_stands H id s c k i a =
       inr (
         (s, i, itself_below s.class),
         inr (
           waits H id c k a,
-          subst (λ (z : Here). Bound tests base gv subs loose (StandsOver tests base gv subs loose z.scope.class c.callers c.live)) (sym k.at)
-              (subst (λ (r : Around). Stands tests base gv subs loose H.scope.class r) (sym a.around_is) a.stands),
+          subst (λ (z : Here). Bound tests base subs loose (StandsOver tests base subs loose z.scope.class c.callers c.live)) (sym k.at)
+              (subst (λ (r : Around). Stands tests base subs loose H.scope.class r) (sym a.around_is) a.stands),
         ),
       )

@@ -11,7 +11,7 @@ use Rattle.asl_rules.specs.declarations.Scopes.{Scope, Body, Signature}
 use Rattle.asl_rules.specs.expressions.Typing.{Typed}
 use Rattle.asl_rules.specs.expressions.Exprs.{typed, expr_span}
 use Rattle.asl_rules.specs.statements.Acting.{FoundStmt, in_order}
-use Rattle.asl_rules.specs.declarations.Signatures.{Head, body_of, may_end, tree_func, body_rule}
+use Rattle.asl_rules.specs.declarations.Programs.{Head, body_of, may_end, tree_func, body_rule}
 use Rattle.asl_laws.proofs.basics.Lists.{AllOf}
 use Rattle.asl_laws.specs.certificates.Texts.{Line, of_expr, body_line}
 use Rattle.asl_laws.specs.certificates.Lines.{Lined, Failure, lined, gives, fails, at_next, one_line, after, ◌into◌, ◌and◌, site}

@@ -15,11 +15,8 @@ use Rattle.asl_rules.specs.declarations.Scopes.{Signature}
 use Rattle.asl_rules.specs.declarations.Turns.{globals_rule}
 use Rattle.asl_rules.specs.statements.Acting.{in_order}
 use Rattle.asl_rules.specs.statements.Stmts.{found_stmt}
-use Rattle.asl_rules.specs.declarations.Programs.{Accepted, accepted, entries}
-use Rattle.asl_rules.specs.declarations.Signatures.{Head, signatures, signatures_rule, overloads_rule, may_end}
-use Rattle.asl_rules.specs.declarations.Environments.{funcs_of}
-use Rattle.asl_rules.specs.declarations.Signatures.{body_of, tree_func, body_rule, bodies_rule}
-use Rattle.asl_rules.specs.declarations.Programs.{entry_rule, verdict}
+use Rattle.asl_rules.specs.declarations.Programs.{Accepted, Head, accepted, entries, funcs_of, signatures, signatures_rule, overloads_rule, may_end}
+use Rattle.asl_rules.specs.declarations.Programs.{body_of, tree_func, body_rule, bodies_rule, entry_rule, verdict}
 use Rattle.asl_rules.proofs.basics.Inversions.{bind_ok, then_ok, need_ok, ok_ok}
 use Rattle.asl_laws.proofs.verdict.OneVerdict.{one_test}
 use Rattle.asl_laws.specs.certificates.Texts.{body_line}

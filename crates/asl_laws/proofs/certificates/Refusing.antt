@@ -8,9 +8,7 @@ use Rattle.asl_rules.specs.Tests.{Tests}
 use Rattle.asl_rules.specs.declarations.Names.{names_rule, all_declared}
 use Rattle.asl_rules.specs.declarations.Uses.{cycles_rule}
 use Rattle.asl_rules.specs.declarations.Turns.{globals_rule}
-use Rattle.asl_rules.specs.declarations.Programs.{accepted, entry_rule}
-use Rattle.asl_rules.specs.declarations.Environments.{funcs_of}
-use Rattle.asl_rules.specs.declarations.Signatures.{signatures, signatures_rule, overloads_rule, bodies_rule}
+use Rattle.asl_rules.specs.declarations.Programs.{accepted, funcs_of, signatures, signatures_rule, overloads_rule, bodies_rule, entry_rule}
 use Rattle.asl_rules.specs.declarations.Programs.{verdict}
 use Rattle.asl_laws.specs.certificates.Certificates.{heads_of}
 use Rattle.asl_laws.proofs.certificates.Lines.{err_isnt}

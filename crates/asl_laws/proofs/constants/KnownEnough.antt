@@ -10,7 +10,7 @@ use Rattle.asl_rules.specs.runs.Plans.{Meter, Outcome, Done, Thrown, Halt, handl
 use Rattle.asl_rules.specs.runs.Pures.{◌>>=◌}
 use Rattle.asl_rules.specs.runs.ByNames.{expr_plan}
 use Rattle.asl_rules.specs.declarations.Constants.{Known, before_runs, known_parts, settled, constant}
-use Rattle.asl_rules.specs.declarations.Environments.{Environment}
+use Rattle.asl_rules.specs.declarations.Programs.{Environment}
 use Rattle.asl_rules.specs.expressions.Exprs.{expr_span, span_of}
 use Rattle.asl_rules.specs.runs.Evaluation.{in_state, tree_parts, meaning}
 use Rattle.asl_laws.specs.BeforeRuns.{HoldsInitial, EndsSo, IsBarred, HoldsCall, Enough, OneEvaluation}

@@ -7,7 +7,6 @@ use Rattle.asl_syn.specs.declared.tree.Ident.{Ident}
 use Rattle.asl_syn.specs.declared.tree.TypeDef.{TypeDef}
 use Rattle.asl_syn.specs.declared.tree.TypeDef.TheVariants as td
 use Rattle.asl_syn.specs.declared.tree.StorageDecl.{StorageDecl}
-use Rattle.asl_syn.specs.declared.tree.TypeDecl.{TypeDecl}
 use Rattle.asl_syn.specs.declared.tree.Decl.{Decl}
 use Rattle.asl_syn.specs.declared.tree.Decl.TheVariants as dc
 use Rattle.asl_rules.specs.Faults.{◌>>=◌}
@@ -15,12 +14,11 @@ use Rattle.asl_rules.specs.Tests.{Tests}
 use Rattle.asl_rules.specs.types.Types.{Ty, named, structure}
 use Rattle.asl_rules.specs.values.Values.{Value}
 use Rattle.asl_rules.specs.declarations.Scopes.{Entry, Standing, Stored, Subprogram, TypeName, Label, Storage, Scope, standing_of, storage_in, storage_of}
-use Rattle.asl_rules.specs.declarations.Declarations.{def_rule, supertype_rule, label_entries, type_entries, storage_rule, type_decl_rule, storage_decl_rule}
-use Rattle.asl_rules.specs.declarations.Environments.{is_var}
+use Rattle.asl_rules.specs.declarations.Declarations.{def_rule, supertype_rule, label_entries, type_entries, storage_rule, decl_rule, in_names}
+use Rattle.asl_rules.specs.declarations.Declarations as decl
 use Rattle.asl_rules.specs.runs.States.{Binding, resting}
 use Rattle.asl_rules.specs.declarations.Constants.{initial_value}
 use Rattle.asl_rules.specs.runs.Evaluation.{value_of, or_value, label_in, global_with, global_in, cons_some, globals_among}
-use Rattle.asl_rules.specs.declarations.Turns.{SoFar, scope_so_far, decls_so_far}
 use Rattle.asl_laws.specs.BeforeRuns.{HoldsInitial, BeginsSo}
 use Rattle.asl_laws.specs.Evaluated.{names_after}
 use Rattle.asl_rules.proofs.basics.Tests.{same_name, name_is, no}
@@ -82,29 +80,18 @@ from_labels P (td.Alias ty) name T = tt
 from_labels P (td.Record span fs) name T = tt
 from_labels P (td.Exception span fs) name T = tt
 
-type_from : (t : Tests) (d : TypeDecl) (G : Scope) → OkFrom (dc.Type d) (type_decl_rule t d G)
-type_from t d G =
-    bind_from (dc.Type d) (def_rule t d.name.text d.def G) _ (λ T.
-    bind_from (dc.Type d) (supertype_rule t d.supertype T G) (λ supers. Ok (type_entries d (named d.name.text supers (structure T))))
-    (λ supers. (tt, from_labels (IsStorage (dc.Type d)) d.def d.name.text (named d.name.text supers (structure T)))))
-
-storage_from : (t : Tests) (ds : List Decl) (d : StorageDecl) (G : Scope) → OkFrom (dc.Storage d) (storage_decl_rule t ds d G)
-storage_from t ds d G = bind_from (dc.Storage d) (storage_rule t ds d (is_var d.kind) d.ty d.init G) _ (λ s. (refl, tt))
-
--- what a declaration brings is of declarations
-brought_from : (ds : List Decl) (d : Decl) (r : Result (List Entry) Fault) (es : List Entry) → In d ds → OkFrom d r → r ≡ Ok es →
-    From (HasStorage ds) es
-brought_from ds d r es i f h =
-    from_more (IsStorage d) (HasStorage ds) (λ name k. has_storage ds d name i k) es (subst (OkFrom d) h f)
+decl_from : (t : Tests) (d : Decl) (G : Scope) → OkFrom d (decl_rule t d G)
+decl_from t (dc.Type d) G = bind_from (dc.Type d) (def_rule t d.name.text d.def G) _ (λ T. bind_from (dc.Type d) (supertype_rule t d.supertype T G) (λ supers. Ok (type_entries d (named d.name.text supers (structure T)))) (λ supers. (tt, from_labels (IsStorage (dc.Type d)) d.def d.name.text (named d.name.text supers (structure T)))))
+decl_from t (dc.Storage d) G = bind_from (dc.Storage d) (storage_rule t d (decl.is_var d.kind) d.ty d.init G) _ (λ s. (refl, tt))
+decl_from t (dc.Func f) G = (tt, tt)
 
 -- after any number of turns each name of storage is that of a declaration
 names_from : (t : Tests) (n : ℕ) (ds : List Decl) → From (HasStorage ds) (names_after t n ds)
 names_from t n ds =
     visible_have (λ e. One (HasStorage ds) e.name e.standing) (λ m. tt) t ds (λ d i. has_storage ds (dc.Storage d) d.name.text i refl)
-    (λ js a d i es h. brought_from ds (dc.Type d) (type_decl_rule t d (scope_so_far ds js)) es i (type_from t d (scope_so_far ds js)) h)
-    (λ js a d i es h.
-    brought_from ds (dc.Storage d) (storage_decl_rule t (decls_so_far ds js) d (scope_so_far ds js)) es i
-    (storage_from t (decls_so_far ds js) d (scope_so_far ds js)) h) n
+    (λ d i names a es h.
+    let own : From (IsStorage d) es = subst (OkFrom d) h (decl_from t d (in_names names)) in
+    from_more (IsStorage d) (HasStorage ds) (λ name k. has_storage ds d name i k) es own) n
 
 -- ---- the globals as a run begins
 
@@ -184,16 +171,6 @@ pub starts_at : (t : Tests) (n : ℕ) (ds : List Decl) →
     let names : List Entry = names_after t n ds in
     HoldsInitial (record { decls = ds; names = names; limit = t.limit }) (resting (globals_among ds names))
 starts_at t n ds name = each (names_after t n ds) ds (names_from t n ds) name (standing_of name (names_after t n ds)) refl
-
--- the globals are those of all declarations, whichever subprograms are well formed by then
-pub globals_so_far : (names : List Entry) (ds : List Decl) (js : SoFar) → globals_among (decls_so_far ds js) names ≡ globals_among ds names
-globals_so_far names [] js = refl
-globals_so_far names (dc.Type d ∷ ds) [] = globals_so_far names ds []
-globals_so_far names (dc.Type d ∷ ds) (j ∷ js) = globals_so_far names ds js
-globals_so_far names (dc.Storage d ∷ ds) [] = ap (cons_some (global_in d (storage_of d.name.text names))) (globals_so_far names ds [])
-globals_so_far names (dc.Storage d ∷ ds) (j ∷ js) = ap (cons_some (global_in d (storage_of d.name.text names))) (globals_so_far names ds js)
-globals_so_far names (dc.Func f ∷ ds) [] = globals_so_far names ds []
-globals_so_far names (dc.Func f ∷ ds) (j ∷ js) = globals_so_far names ds js
 
 -- and so as a run begins
 pub starts : (t : Tests) (ds : List Decl) → BeginsSo t ds

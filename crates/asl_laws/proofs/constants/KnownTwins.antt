@@ -21,7 +21,7 @@ use Rattle.asl_rules.specs.runs.Forms.{at_once, literal, behind, behind_all, beh
 use Rattle.asl_rules.specs.types.Shaped.{itself, exprs_in, shapes_in, given_parts, slice_parts, pattern_parts, type_parts, Shaped, TypeOver, Unread, given_layer, slice_layer, part_layer, bitfield_layer, pattern_layer, type_layer, range_parts, bitfield_parts}
 use Rattle.asl_rules.specs.runs.ByNames.{matched_in, expr_plan}
 use Rattle.asl_rules.specs.declarations.Constants.{Known, before_runs, known_parts, initial_value, constant}
-use Rattle.asl_rules.specs.declarations.Environments.{Environment}
+use Rattle.asl_rules.specs.declarations.Programs.{Environment}
 use Rattle.asl_rules.specs.runs.Evaluation.{value_here, types_of, in_state, tree_parts}
 use Rattle.asl_laws.specs.BeforeRuns.{HoldsInitial, IsBarred}
 use Rattle.asl_rules.proofs.constants.KnownParts.{known_given, known_slice, known_pattern, known_type, known_layer, parts_of, shapes_of, given_known, slice_known, pattern_known, type_known, PatternLayer, pattern_taken, type_taken}

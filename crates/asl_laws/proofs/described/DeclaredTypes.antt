@@ -16,7 +16,7 @@ use Rattle.asl_rules.specs.Tests.{Tests}
 use Rattle.asl_rules.specs.types.Types as types
 use Rattle.asl_rules.specs.types.Types.{Ty, Fields, field, record_of, exception_of, named, structure, misfit}
 use Rattle.asl_rules.specs.types.Closed as cl
-use Rattle.asl_rules.specs.types.Closed.{closed, fields_with}
+use Rattle.asl_rules.specs.types.Closed.{Closed, closed, fields_with}
 use Rattle.asl_rules.specs.values.Values.{label}
 use Rattle.asl_rules.specs.declarations.Names.{Declared, declared_as, declared_by, labels_of, all_declared}
 use Rattle.asl_rules.specs.declarations.Scopes.{Entry, Standing, Stored, Subprogram, TypeName, Label, type_name, label_name, standing_of, type_in, type_of_name}
@@ -24,10 +24,9 @@ use Rattle.asl_rules.specs.types.Widths.{bounded}
 use Rattle.asl_rules.specs.expressions.Exprs.{written}
 use Rattle.asl_rules.specs.private.Agreement.{no_atoms}
 use Rattle.asl_rules.specs.private.Judgements.{CameOf}
-use Rattle.asl_rules.specs.declarations.Declarations.{in_names, fields_written, once, labels, def_rule, reached, is_none, supertype_rule, label_entries, type_entries, type_decl_rule}
-use Rattle.asl_rules.specs.declarations.Turns.{Brought, only_names, Fine, final, scope_so_far, names_of_program}
-use Rattle.asl_rules.specs.declarations.Environments.{Environment}
-use Rattle.asl_rules.specs.declarations.Programs.{environment}
+use Rattle.asl_rules.specs.declarations.Declarations.{in_names, fields_written, once, labels, def_rule, reached, is_none, supertype_rule, label_entries, type_entries}
+use Rattle.asl_rules.specs.declarations.Turns.{Fine, final, names_of_program}
+use Rattle.asl_rules.specs.declarations.Programs.{Environment, environment}
 use Rattle.asl_rules.specs.runs.Evaluation.{label_in}
 use Rattle.asl_laws.specs.Described.{structure_at, with_field, written_fields, definition, names_at, supertypes, LabelsDescribed, DefinitionDescribed, TypeDescribed}
 use Rattle.asl_rules.proofs.basics.Inversions.{ok_ok, bind_ok, then_ok, found_ok}
@@ -36,8 +35,7 @@ use Rattle.asl_rules.proofs.scopes.EachOnce.{turned}
 use Rattle.asl_rules.proofs.verdict.Distinct.{ApartFrom, Distinct, NotIn, apart_later, rest_distinct, IsPlain, In}
 use Rattle.asl_rules.proofs.verdict.Named.{final_stands, own_stands}
 use Rattle.asl_laws.proofs.described.Forms.{GoesBy, formed}
-use Rattle.asl_laws.proofs.described.WrittenTypes.{Brings, Outside, written_is}
-use Rattle.asl_laws.proofs.described.Bare.{type_bare}
+use Rattle.asl_laws.proofs.described.WrittenTypes.{Outside, written_is}
 
 -- ---- types without the names that they go by
 
@@ -95,14 +93,9 @@ module _ (t : Tests) (ds : List Decl) (g : Outside t ds) where
   env = environment t ds
 
   -- what a declaration brings is visible
-  pub stands : (d : Decl) (b : Brought) (name : List ℕ) (st : Standing) → CameOf d (Fine b) ds (final t ds) →
-      standing_of name b.names ≡ Some st → IsPlain st → standing_of name names ≡ Some st
-  stands d b name st c h p = own_stands ds (final t ds) d (Fine b) name st (final_stands t ds) g.distinct c h p
-
-  type_gives : (d : TypeDecl) (b : Brings t ds (dc.Type d)) → type_decl_rule t d (in_names names) ≡ Ok b.brought.names
-  type_gives d b =
-      let u = bind_ok (type_decl_rule t d (scope_so_far ds (final t ds))) _ b.brought b.gives in
-      sym (type_bare t names (scope_so_far ds (final t ds)).subs d) ∙ u.first ∙ ap (λ (z : Brought). Ok z.names) (ok_ok (only_names u.value) b.brought u.then)
+  pub stands : (d : Decl) (es : List Entry) (name : List ℕ) (st : Standing) → CameOf d (Fine es) ds (final t ds) →
+      standing_of name es ≡ Some st → IsPlain st → standing_of name names ≡ Some st
+  stands d es name st c h p = own_stands ds (final t ds) d (Fine es) name st (final_stands t ds) g.distinct c h p
 
   -- ---- what a declared type stands for
 
@@ -146,24 +139,24 @@ module _ (t : Tests) (ds : List Decl) (g : Outside t ds) where
 
   -- ---- labels
 
-  labels_are : (d : Decl) (b : Brought) (name : List ℕ) (T : Ty) (own : Entry) (is js : List Ident) →
-      CameOf d (Fine b) ds (final t ds) → b.names ≡ own ∷ map (label_entry name T) is → NotIn own.name (map (declared_as false) js) →
+  labels_are : (d : Decl) (es : List Entry) (name : List ℕ) (T : Ty) (own : Entry) (is js : List Ident) →
+      CameOf d (Fine es) ds (final t ds) → es ≡ own ∷ map (label_entry name T) is → NotIn own.name (map (declared_as false) js) →
       ((i : Ident) → In i js → In i is) → LabelsDescribed env name js
-  labels_are d b name T own is [] c e n f = tt
-  labels_are d b name T own is (j ∷ js) c e n f =
-      let here : standing_of j.text b.names ≡ Some (Label T (label name j.text)) =
-      ap (standing_of j.text) e ∙ ap (λ q. cond q (Some own.standing) (standing_of j.text (map (label_entry name T) is))) (turned j.text own.name n.0) ∙ label_found name T is j (f j (inl refl)) in (
-        ap label_in (stands d b j.text (Label T (label name j.text)) c here tt),
-        labels_are d b name T own is js c e n.1 (λ k m. f k (inr m)),
+  labels_are d es name T own is [] c e n f = tt
+  labels_are d es name T own is (j ∷ js) c e n f =
+      let here : standing_of j.text es ≡ Some (Label T (label name j.text)) =
+      ap (standing_of j.text) e ∙ ap (λ b. cond b (Some own.standing) (standing_of j.text (map (label_entry name T) is))) (turned j.text own.name n.0) ∙ label_found name T is j (f j (inl refl)) in (
+        ap label_in (stands d es j.text (Label T (label name j.text)) c here tt),
+        labels_are d es name T own is js c e n.1 (λ k m. f k (inr m)),
       )
 
-  def_described : (d : TypeDecl) (def : TypeDef) (b : Brought) (T : Ty) → CameOf (dc.Type d) (Fine b) ds (final t ds) →
-      b.names ≡ type_name d.name.text T ∷ label_entries def d.name.text T → NotIn d.name.text (map (declared_as false) (labels_of def)) →
+  def_described : (d : TypeDecl) (def : TypeDef) (es : List Entry) (T : Ty) → CameOf (dc.Type d) (Fine es) ds (final t ds) →
+      es ≡ type_name d.name.text T ∷ label_entries def d.name.text T → NotIn d.name.text (map (declared_as false) (labels_of def)) →
       DefinitionDescribed env d.name.text def
-  def_described d (td.Alias ty) b T c e n = tt
-  def_described d (td.Labels span is) b T c e n = labels_are (dc.Type d) b d.name.text T (type_name d.name.text T) is is c e n (λ k m. m)
-  def_described d (td.Record span fs) b T c e n = tt
-  def_described d (td.Exception span fs) b T c e n = tt
+  def_described d (td.Alias ty) es T c e n = tt
+  def_described d (td.Labels span is) es T c e n = labels_are (dc.Type d) es d.name.text T (type_name d.name.text T) is is c e n (λ k m. m)
+  def_described d (td.Record span fs) es T c e n = tt
+  def_described d (td.Exception span fs) es T c e n = tt
 
   -- ---- a declaration
 
@@ -171,12 +164,12 @@ module _ (t : Tests) (ds : List Decl) (g : Outside t ds) where
   type_described d i =
       let b = g.brings (dc.Type d) i refl in
       let name = d.name.text in
-      let v = bind_ok (def_rule t name d.def (in_names names)) _ b.brought.names (type_gives d b) in
-      let s = bind_ok (supertype_rule t d.supertype v.value (in_names names)) _ b.brought.names v.then in
+      let v = bind_ok (def_rule t name d.def (in_names names)) _ b.entries b.gives in
+      let s = bind_ok (supertype_rule t d.supertype v.value (in_names names)) _ b.entries v.then in
       let T : Ty = named name s.value (structure v.value) in
-      let e : b.brought.names ≡ type_entries d T = sym (ok_ok (type_entries d T) b.brought.names s.then) in
-      let here : standing_of name b.brought.names ≡ Some (TypeName T) = ap (standing_of name) e ∙ ap (λ c. cond c (Some (TypeName T)) (standing_of name (label_entries d.def name T))) (name_is name) in
-      let known : standing_of name names ≡ Some (TypeName T) = stands (dc.Type d) b.brought name (TypeName T) b.is_of here tt in
+      let e : b.entries ≡ type_entries d T = sym (ok_ok (type_entries d T) b.entries s.then) in
+      let here : standing_of name b.entries ≡ Some (TypeName T) = ap (standing_of name) e ∙ ap (λ c. cond c (Some (TypeName T)) (standing_of name (label_entries d.def name T))) (name_is name) in
+      let known : standing_of name names ≡ Some (TypeName T) = stands (dc.Type d) b.entries name (TypeName T) b.is_of here tt in
       let apart = (distinct_in ds (dc.Type d) i g.distinct).1 in
       record {
         stands_for = closed T;
@@ -184,6 +177,6 @@ module _ (t : Tests) (ds : List Decl) (g : Outside t ds) where
             ∙ ap (option_map (λ supers. cl.named name supers (closed (structure v.value)))) (supertypes_are d.supertype v.value s.value s.first);
         stands = ap (λ o. option_map closed (type_in o)) known;
         def =
-            def_described d d.def b.brought T b.is_of e
+            def_described d d.def b.entries T b.is_of e
             (apart_later (declared_as false d.name) (map (declared_as false) (labels_of d.def)) refl apart);
       }

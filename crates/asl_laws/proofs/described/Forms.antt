@@ -3,16 +3,14 @@ use Rattle.std.proofs.Common.{◌≡◌, ℕ, List, [], ◌∷◌, Some, None, O
 use Rattle.asl_syn.specs.declared.tree.Ident.{Ident}
 use Rattle.asl_syn.specs.declared.tree.TypeDef.{TypeDef}
 use Rattle.asl_syn.specs.declared.tree.TypeDef.TheVariants as td
-use Rattle.asl_syn.specs.declared.tree.TypeDecl.{TypeDecl}
-use Rattle.asl_syn.specs.declared.tree.StorageDecl.{StorageDecl}
 use Rattle.asl_syn.specs.declared.tree.Decl.{Decl}
+use Rattle.asl_syn.specs.declared.tree.Decl.TheVariants as dc
 use Rattle.asl_rules.specs.Tests.{Tests}
 use Rattle.asl_rules.specs.types.Types.{Ty, named, structure}
 use Rattle.asl_rules.specs.values.Values.{label}
-use Rattle.asl_rules.specs.declarations.Scopes.{Entry, Scope, Standing, Stored, Subprogram, TypeName, Label, global, label_name, standing_of}
-use Rattle.asl_rules.specs.declarations.Declarations.{def_rule, supertype_rule, label_entries, type_entries, storage_rule, type_decl_rule, storage_decl_rule}
-use Rattle.asl_rules.specs.declarations.Environments.{is_var}
-use Rattle.asl_rules.specs.declarations.Turns.{scope_so_far, decls_so_far, names_of_program}
+use Rattle.asl_rules.specs.declarations.Scopes.{Entry, Scope, Standing, Stored, Subprogram, TypeName, Label, subprogram, global, label_name, standing_of}
+use Rattle.asl_rules.specs.declarations.Declarations.{in_names, def_rule, supertype_rule, label_entries, type_entries, storage_rule, is_var, decl_rule}
+use Rattle.asl_rules.specs.declarations.Turns.{names_of_program}
 use Rattle.asl_rules.proofs.basics.Inversions.{ok_ok, bind_ok}
 use Rattle.asl_rules.proofs.verdict.EachName.{EachName, name_has, visible_have}
 
@@ -41,18 +39,17 @@ formed_def (td.Labels span is) name T = formed_labels T name is
 formed_def (td.Record span fs) name T = tt
 formed_def (td.Exception span fs) name T = tt
 
--- what declarations bring
-formed_type : (t : Tests) (d : TypeDecl) (G : Scope) (es : List Entry) → type_decl_rule t d G ≡ Ok es → AllFormed es
-formed_type t d G es h =
+-- what a declaration brings
+formed_decl : (t : Tests) (d : Decl) (G : Scope) (es : List Entry) → decl_rule t d G ≡ Ok es → AllFormed es
+formed_decl t (dc.Type d) G es h =
     let v = bind_ok (def_rule t d.name.text d.def G) _ es h in
     let s = bind_ok (supertype_rule t d.supertype v.value G) _ es v.then in
     let T : Ty = named d.name.text s.value (structure v.value) in
     subst AllFormed (ok_ok (type_entries d T) es s.then) (record { supers = s.value; ty = structure v.value; is = refl }, formed_def d.def d.name.text T)
-
-formed_storage : (t : Tests) (ds : List Decl) (d : StorageDecl) (G : Scope) (es : List Entry) → storage_decl_rule t ds d G ≡ Ok es → AllFormed es
-formed_storage t ds d G es h =
-    let s = bind_ok (storage_rule t ds d (is_var d.kind) d.ty d.init G) _ es h in
+formed_decl t (dc.Storage d) G es h =
+    let s = bind_ok (storage_rule t d (is_var d.kind) d.ty d.init G) _ es h in
     subst AllFormed (ok_ok (global d.name.text s.value.ty (is_var d.kind) s.value.value ∷ []) es s.then) (refl, tt)
+formed_decl t (dc.Func f) G es h = subst AllFormed (ok_ok (subprogram f.name.text ∷ []) es h) (tt, tt)
 
 -- each name outside bodies
 pub formed : (t : Tests) (ds : List Decl) (name : List ℕ) (st : Standing) → standing_of name (names_of_program t ds) ≡ Some st →
@@ -60,6 +57,5 @@ pub formed : (t : Tests) (ds : List Decl) (name : List ℕ) (st : Standing) → 
 formed t ds name st h =
     let all : AllFormed (names_of_program t ds) =
     visible_have (λ e. Formed e.name e.standing) (λ n. tt) t ds (λ d i. refl)
-    (λ js a d i es k. formed_type t d (scope_so_far ds js) es k)
-    (λ js a d i es k. formed_storage t (decls_so_far ds js) d (scope_so_far ds js) es k) (length ds) in
+    (λ d i names a es k. formed_decl t d (in_names names) es k) (length ds) in
     name_has Formed (names_of_program t ds) name st all h

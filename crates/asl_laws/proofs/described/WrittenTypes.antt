@@ -26,12 +26,8 @@ use Rattle.asl_rules.specs.runs.Trees.{Tree}
 use Rattle.asl_rules.specs.runs.States.{resting}
 use Rattle.asl_rules.specs.private.Agreement.{no_atoms, types_in, Agrees}
 use Rattle.asl_rules.specs.declarations.Declarations.{in_names}
-use Rattle.asl_rules.specs.declarations.Turns.{Brought, Fine, final, scope_so_far, decl_rule, names_of_program}
-use Rattle.asl_rules.specs.declarations.Uses.{is_func}
-use Rattle.asl_rules.specs.private.Judgements.{CameOf}
-use Rattle.asl_rules.specs.declarations.Scopes.{Scope}
-use Rattle.asl_rules.specs.declarations.Environments.{Environment}
-use Rattle.asl_rules.specs.declarations.Programs.{environment}
+use Rattle.asl_rules.specs.declarations.Turns.{takes_turn, names_of_program}
+use Rattle.asl_rules.specs.declarations.Programs.{Environment, environment}
 use Rattle.asl_rules.specs.types.Written.{Sized, sized, filled, type_span}
 use Rattle.asl_rules.specs.runs.Evaluation.{types_of, sized_at, initial_globals}
 use Rattle.asl_laws.specs.Described.{fixed_storage, known_numbers, written_type, whole_value, whole_values, sized_known}
@@ -49,25 +45,20 @@ use Rattle.asl_laws.proofs.expressions.TreePlans.{AllAsked, AllGive, append_nil}
 use Rattle.asl_laws.proofs.widths.OutsideWidths.{NoneCounted, outside_whole}
 use Rattle.asl_laws.proofs.widths.WholeWidths.{number_width, width_value}
 use Rattle.asl_rules.proofs.verdict.Distinct.{Distinct, In}
+use Rattle.asl_laws.proofs.names.Turned.{Brought}
 use Rattle.asl_rules.proofs.widths.Known.{integer_of_width, integer_of_number}
 use Rattle.asl_laws.proofs.widths.PresentNumbers.{NumbersAgree}
 use Rattle.asl_laws.proofs.described.FirstFilled.{Begins, filled_begins}
 use Rattle.asl_laws.proofs.described.Forms.{formed}
 use Rattle.asl_laws.proofs.expressions.Claims.{Here, Asked, of_type, of_pure, of_width, of_number, of_known, of_divisor, nothing_around}
 
--- what a declaration brings at the end of all turns
-pub record Brings (t : Tests) (ds : List Decl) (d : Decl) : Type 0 where
-  pub brought : Brought
-  pub is_of : CameOf d (Fine brought) ds (final t ds)
-  pub gives : decl_rule t ds (final t ds) d ≡ Ok brought
-
 -- what a well-formed program has outside its bodies
 pub record Outside (t : Tests) (ds : List Decl) : Type 0 where
   pub right : IsRight t
   pub distinct : Distinct (all_declared ds)
-  pub brings : (d : Decl) → In d ds → is_func d ≡ false → Brings t ds d
+  pub brings : (d : Decl) → In d ds → takes_turn d ≡ true → Brought t ds d
   pub named : WellNamed (names_of_program t ds)
-  pub agrees : Agrees (names_of_program t ds) no_atoms (names_of_program t ds) no_atoms (resting (initial_globals (environment t ds)))
+  pub agrees : Agrees (names_of_program t ds) (names_of_program t ds) no_atoms (resting (initial_globals (environment t ds)))
 
 -- ---- integers
 
@@ -127,16 +118,12 @@ module _ (t : Tests) (ds : List Decl) (g : Outside t ds) where
     numbers = λ span name z h. number_of_name span name z (standing_of name names) refl h;
   }
 
-  -- what a declaration was judged in at the end
-  abbrev pub last : Scope
-  last = scope_so_far ds (final t ds)
-
   -- ---- types
 
   -- a written type that is well formed evaluates to the type that it was judged as
   pub written_is : (ty : TypeExpr) (outside : Bool) (W : Written) → written t ty outside (in_names names) ≡ Ok W → written_type env ty ≡ Some (closed W.ty)
   written_is ty outside W h =
-      type_by t g.right ds names no_atoms [] true [] g.named (record { scope = in_names names; present = no_atoms; around = nothing_around }) (known_numbers env) (resting (initial_globals env)) ty outside W numbers_agree g.agrees h
+      type_by t g.right ds names [] true [] g.named (record { scope = in_names names; present = no_atoms; around = nothing_around }) (known_numbers env) (resting (initial_globals env)) ty outside W numbers_agree g.agrees h
 
   -- what such a type begins with
   pub record Begun (ty : TypeExpr) (T : Closed) : Type 0 where
@@ -159,7 +146,7 @@ module _ (t : Tests) (ds : List Decl) (g : Outside t ds) where
   record Valued (qs : List Asked) (rs : List Fraction) : Type 0 where
     values : List Value
     are : whole_values rs ≡ Some values
-    give : AllGive t g.right names no_atoms [] true at_names qs values
+    give : AllGive t g.right names [] true at_names qs values
 
   one_value : (r : Fraction) (z : ℤ) → Proper r → IsWhole z r → whole_value r ≡ Some (int z)
   one_value r z h w =
@@ -171,7 +158,7 @@ module _ (t : Tests) (ds : List Decl) (g : Outside t ds) where
   one_more r rs z xs e f = ap (option_and_then (λ x. option_map (λ ys. x ∷ ys) (whole_values rs))) e ∙ ap (option_map (λ ys. int z ∷ ys)) f
 
   valued : (es : List Expr) (ts : List Tree) (qs : List Asked) (rs : List Fraction) →
-      AllAsked t g.right names no_atoms [] true (in_names names) es ts qs → AllRatios no_atoms qs rs → Valued qs rs
+      AllAsked t g.right names [] true (in_names names) es ts qs → AllRatios no_atoms qs rs → Valued qs rs
   unfolding at_names
   valued [] [] [] [] h i = record { values = []; are = refl; give = tt }
   valued (e ∷ es) (u ∷ ts) (of_width W ∷ qs) (r ∷ rs) h i =
@@ -200,10 +187,10 @@ module _ (t : Tests) (ds : List Decl) (g : Outside t ds) where
   unfolding at_names
   begun ty outside W h =
       let q =
-      type_says t g.right names no_atoms [] true at_names (λ name T o. type_fixed (types_in names) names name g.named.good T o)
+      type_says t g.right names [] true at_names (λ name T o. type_fixed (types_in names) names name g.named.good T o)
       (λ name. refl) ty outside W h in
       let v =
-      numbered t g.right names no_atoms [] true at_names (known_numbers env) numbers_agree
+      numbered t g.right names [] true at_names (known_numbers env) numbers_agree
       (λ name s c e k. some_none c (sym k ∙ none_counted name s (stored_of (standing_of name names) s e)))
       (type_parts ty).exprs W.sizes q.asked q.asks q.numeric in
       let x = valued (type_parts ty).exprs W.sizes q.asked v.values q.asks v.ratios in

@@ -1,6 +1,6 @@
 -- Where a fault of the code T04 comes from: an evaluation stopped with a dynamic fault, or a call or a global `var` stands where it may not.
 -- All other rules have other codes.
-use Rattle.std.proofs.Common.{◌≡◌, ℕ, inl, inr, Bool, true, false, cond, List, [], Option, Some, None, Result, Ok, Err, refl, sym, ap, ◌∙◌, subst, ◌⊎◌, ◌∷◌}
+use Rattle.std.proofs.Common.{◌≡◌, ℕ, inl, inr, Bool, true, List, [], Option, Some, None, Result, Ok, Err, refl, sym, ◌∙◌, subst, ◌⊎◌, ◌∷◌}
 use Rattle.asl_syn.specs.declared.token.Span.{Span}
 use Rattle.asl_syn.specs.declared.code.Fault.{Fault}
 use Rattle.asl_syn.specs.declared.code.StaticCode.{StaticCode}
@@ -20,42 +20,32 @@ use Rattle.asl_rules.specs.types.Closed.{closed}
 use Rattle.asl_rules.specs.values.Values.{Value}
 use Rattle.asl_rules.specs.values.Vectors.{literal_of}
 use Rattle.asl_rules.specs.types.Writing.{Written}
-use Rattle.asl_rules.specs.expressions.Exprs.{found_type, typed, written, expr_span}
-use Rattle.asl_rules.specs.expressions.Typing.{Typed}
-use Rattle.asl_rules.specs.declared.effect.Effect.TheVariants as Effect
+use Rattle.asl_rules.specs.expressions.Exprs.{found_type, written}
 use Rattle.asl_rules.specs.declarations.Names.{names_rule, all_declared}
 use Rattle.asl_rules.specs.declarations.Scopes.{Entry}
-use Rattle.asl_rules.specs.declarations.Barred.{barred, limit_barred}
-use Rattle.asl_rules.specs.declarations.ImpureCalls.{impure_call}
+use Rattle.asl_rules.specs.declarations.Barred.{barred}
 use Rattle.asl_rules.specs.private.Belonging.{InType}
 use Rattle.asl_rules.specs.private.Agreement.{no_atoms, types_in}
-use Rattle.asl_rules.specs.runs.Plans.{Outcome, Done, Thrown, Halt, Faulted, Stuck, Pure, Good, Bad}
-use Rattle.asl_rules.specs.runs.States.{Core}
+use Rattle.asl_rules.specs.runs.Plans.{Faulted, Stuck, Pure, Good, Bad}
 use Rattle.asl_rules.specs.declarations.Constants.{constant}
 use Rattle.asl_rules.specs.types.Written.{first_value}
-use Rattle.asl_rules.specs.declarations.InitialValues.{holds_call, evaluated, ended, run_before, value_before}
-use Rattle.asl_rules.specs.declarations.Signatures.{as_number}
-use Rattle.asl_rules.specs.declarations.Environments.{Environment, origin}
-use Rattle.asl_rules.specs.declarations.Programs.{verdict, ReadFault, default_decls, final_decls}
+use Rattle.asl_rules.specs.declarations.Declarations.{in_names, evaluated}
+use Rattle.asl_rules.specs.declarations.Programs.{as_number, origin, verdict, ReadFault, default_decls, final_decls}
 use Rattle.asl_rules.specs.private.Grown.{AreGrown}
 use Rattle.asl_rules.proofs.basics.Inversions.{ok_ok, err_ok}
 use Rattle.asl_laws.proofs.scopes.GrownTexts.{judged_grown}
 use Rattle.asl_rules.proofs.values.Shapes.{integer_is}
 use Rattle.asl_rules.proofs.values.KindOf.{has_kind}
 use Rattle.asl_rules.proofs.values.SameKind.{equal_kinds}
-use Rattle.asl_laws.specs.Evaluated.{GivesOrFaults, of_run, before_runs, Comes, Evaluates, after, names_after, scope_after, environment_after, StandsIn, IsInitialiser, IsLimit, InSubprogram, InitialiserFaults, LimitFaults, FirstValueFaults, HasCause}
+use Rattle.asl_laws.specs.Evaluated.{GivesOrFaults, ConstantsGiven, Evaluates, AreVisible, StandsIn, EvaluationFaults, FirstValueFaults, HasCause}
 use Rattle.asl_laws.specs.Spans.{Mark, place, literal, Spans, Each, IsAmong, all_of, expr_spans, decl_spans}
-use Rattle.asl_laws.proofs.spans.EachSpan.{each_one, each_placed, each_among}
+use Rattle.asl_laws.proofs.spans.EachSpan.{each_one, each_among}
 use Rattle.asl_laws.proofs.spans.OtherCodes.{Other}
 use Rattle.asl_laws.proofs.spans.Standing.{At, Stands, Marked, next_by}
 use Rattle.asl_laws.proofs.spans.DeclSpans.{names_stand, all_declared_stand}
 use Rattle.asl_laws.proofs.spans.ValueEnds.{Ends, first_ends}
-use Rattle.asl_laws.proofs.spans.KnownSpans.{MaybeAt, known_there, barred_there, limit_barred_there}
-use Rattle.asl_laws.proofs.spans.PlanSpans.{RunEnds}
-use Rattle.asl_laws.proofs.spans.RunSpans.{ends_more, subprograms_there, run_there}
-use Rattle.asl_laws.proofs.evaluations.NoCalls.{uncalled_limit}
-use Rattle.asl_laws.proofs.evaluations.InitialCalls.{impure_there}
-use Rattle.asl_laws.proofs.spans.ProgramSpans.{AsksOf, verdict_stands}
+use Rattle.asl_laws.proofs.spans.KnownSpans.{MaybeAt, known_there, barred_there}
+use Rattle.asl_laws.proofs.spans.ProgramSpans.{IsOutside, AsksOf, verdict_stands}
 use Rattle.asl_laws.proofs.evaluations.NeverStuck.{evaluates}
 use Rattle.asl_syn.specs.declared.read.ReadDecl.{ReadDecl}
 use Rattle.asl_laws.proofs.verdict.ReadVerdict.{Faulty, HeaderSays, bodies_say, fault_of_steps}
@@ -89,99 +79,60 @@ module _ (t : Tests) (ds : List Decl) where
 
   -- ---- evaluations
 
-  -- an evaluation of a limit
-  known_has : (R : Value → Type 0) (n : ℕ) (e : Expr) → IsLimit ds e → limit_barred e (names_after t n ds) ≡ None → (r : Pure Value) →
-      constant t.limit e (names_after t n ds) ≡ r → GivesOrFaults R r → Ends (λ span. IsAmong span (expr_spans e)) r → Stands Caused (evaluated r)
-  known_has R n e out b (Good x) q h k = tt
-  known_has R n e out b (Bad (Faulted code span)) q h k =
-      let there : LimitFaults t ds code span = record { expr = e; outside = out; turn = n; may = b; ends = q; inside = k } in
-      record { has = λ m. inl (code, (refl, inr (inl there))) }
-  known_has R n e out b (Bad (Stuck mistake span)) q h k = absurd h
-
-  -- the place of the end of an initialiser's evaluation
-  abbrev InsideOf : Expr → Span → Type 0
-  InsideOf e span = IsAmong span (expr_spans e) ⊎ ((holds_call e ≡ true) × InSubprogram ds span)
-
-  initialiser_has : (R : Value → Type 0) (n : ℕ) (e : Expr) → IsInitialiser ds e → barred e (names_after t n ds) ≡ None → (r : Pure Value) →
-      before_runs (environment_after t n ds) e ≡ Some r → GivesOrFaults R r → Ends (InsideOf e) r → Stands Caused (evaluated r)
-  initialiser_has R n e out b (Good x) q h k = tt
-  initialiser_has R n e out b (Bad (Faulted code span)) q h k =
-      let there : InitialiserFaults t ds code span = record { expr = e; outside = out; turn = n; may = b; ends = q; inside = k } in
-      record { has = λ m. inl (code, (refl, inl there)) }
-  initialiser_has R n e out b (Bad (Stuck mistake span)) q h k = absurd h
-
-  -- a run of its own: it throws nothing
-  run_has : (R : Value → Type 0) (n : ℕ) (e : Expr) → IsInitialiser ds e → barred e (names_after t n ds) ≡ None → (r : Outcome Core Value) →
-      before_runs (environment_after t n ds) e ≡ of_run r → Comes (GivesOrFaults R) (of_run r) → RunEnds (InsideOf e) r → Stands Caused (ended (expr_span e) r)
-  run_has R n e out b (Done x c h) q g k = tt
-  run_has R n e out b (Thrown x c h) q g k = absurd g
-  run_has R n e out b (Halt (Faulted code span) c h) q g k = initialiser_has R n e out b (Bad (Faulted code span)) q g k
-  run_has R n e out b (Halt (Stuck mistake span) c h) q g k = absurd g
-
-  value_has : (R : Value → Type 0) (n : ℕ) (e : Expr) → IsInitialiser ds e → barred e (names_after t n ds) ≡ None →
-      Comes (GivesOrFaults R) (before_runs (environment_after t n ds) e) → Stands Caused (value_before (environment_after t n ds) e)
-  value_has R n e out b g = by (holds_call e) refl g
-    where
-      env : Environment
-      env = environment_after t n ds
-
-      by : (c : Bool) → holds_call e ≡ c → Comes (GivesOrFaults R) (cond c (of_run (run_before env e)) (Some (constant env.limit e env.names))) →
-          Stands Caused (cond c (ended (expr_span e) (run_before env e)) (evaluated (constant env.limit e env.names)))
-      by true q k =
-          run_has R n e out b (run_before env e) (ap (λ c. cond c (of_run (run_before env e)) (Some (constant env.limit e env.names))) q) k
-          (run_there t (InsideOf e) env.decls (scope_after t n ds)
-          (subprograms_there (InsideOf e) ds (after t n ds) (λ f i.
-          each_placed (λ span. IsAmong span (decl_spans (dc.Func f))) (InsideOf e) (λ span k. inr (q, record { func = f; stands = i; inside = k }))
-          (decl_spans (dc.Func f)) (each_among (decl_spans (dc.Func f))))) e
-          (each_placed (λ span. IsAmong span (expr_spans e)) (InsideOf e) (λ span i. inl i) (expr_spans e) (each_among (expr_spans e))))
-      by false q k =
-          initialiser_has R n e out b (constant env.limit e env.names)
-          (ap (λ c. cond c (of_run (run_before env e)) (Some (constant env.limit e env.names))) q) k
-          (ends_more (λ span. IsAmong span (expr_spans e)) (InsideOf e) (λ span i. inl i) (constant env.limit e env.names)
-          (known_there t (λ span. IsAmong span (expr_spans e)) e env.names (each_among (expr_spans e))))
+  -- an evaluation of an expression outside bodies
+  known_has : (R : Value → Type 0) (names : List Entry) → AreVisible t ds names → (e : Expr) → IsOutside ds e → barred e names ≡ None →
+      (r : Pure Value) → constant t.limit e names ≡ r →
+      GivesOrFaults R r → Ends (λ span. IsAmong span (expr_spans e)) r → Stands Caused (evaluated r)
+  known_has R names v e out b (Good x) q h k = tt
+  known_has R names v e (d, (i, is)) b (Bad (Faulted code span)) q h k =
+      let there : EvaluationFaults t ds code span = record {
+        decl = d;
+        stands = i;
+        expr = e;
+        expr_is = is;
+        names = names;
+        visible = v;
+        may = b;
+        ends = q;
+        inside = k;
+      } in
+      record { has = λ n. inl (code, (refl, inl there)) }
+  known_has R names v e out b (Bad (Stuck mistake span)) q h k = absurd h
 
   -- the first value of a type
-  first_has : (n : ℕ) (s : StorageDecl) → StandsIn (dc.Storage s) ds → s.init ≡ None → (ty : TypeExpr) → s.ty ≡ Some ty → (W : Written) →
-      written t ty true (scope_after t n ds) ≡ Ok W → (r : Pure Value) → first_value t.limit (found_type t ty).span (closed W.ty) ≡ r →
+  first_has : (names : List Entry) → AreVisible t ds names → (s : StorageDecl) → StandsIn (dc.Storage s) ds → s.init ≡ None →
+      (ty : TypeExpr) → s.ty ≡ Some ty → (W : Written) →
+      written t ty true (in_names names) ≡ Ok W → (r : Pure Value) → first_value t.limit (found_type t ty).span (closed W.ty) ≡ r →
       GivesOrFaults (λ x. Unit {0}) r → Ends (λ span. (found_type t ty).span ≡ span) r → Stands Caused (evaluated r)
-  first_has n s i init ty is W w (Good x) q h k = tt
-  first_has n s i init ty is W w (Bad (Faulted code span)) q h k =
+  first_has names v s i init ty is W w (Good x) q h k = tt
+  first_has names v s i init ty is W w (Bad (Faulted code span)) q h k =
       let there : FirstValueFaults t ds code span = record {
         decl = s;
         stands = i;
         no_init = init;
         ty = ty;
         ty_is = is;
-        turn = n;
+        names = names;
+        visible = v;
         meant = W;
         meant_is = w;
         ends = q;
         at = k;
       } in
-      record { has = λ m. inl (code, (refl, inr (inr there))) }
-  first_has n s i init ty is W w (Bad (Stuck mistake span)) q h k = absurd h
+      record { has = λ n. inl (code, (refl, inr there)) }
+  first_has names v s i init ty is W w (Bad (Stuck mistake span)) q h k = absurd h
 
   given_value : (R : Value → Type 0) (p : Pure Value) (x : Value) → GivesOrFaults R p → evaluated p ≡ Ok x → R x
   given_value R (Good y) x h e = subst R (ok_ok y x e) h
   given_value R (Bad (Faulted code span)) x h e = err_ok _ x e
   given_value R (Bad (Stuck mistake span)) x h e = absurd h
 
-  var_has : (n : ℕ) (e : Expr) → IsInitialiser ds e → (o : Option Span) → barred e (names_after t n ds) ≡ o →
+  barred_has : (names : List Entry) → AreVisible t ds names → (e : Expr) → IsOutside ds e → (o : Option Span) → barred e names ≡ o →
       MaybeAt t (λ span. IsAmong span (expr_spans e)) o → Stands Caused (none_at T04 o)
-  var_has n e out None h k = tt
-  var_has n e out (Some span) h k = record { has = λ m. inr (inl (record { expr = e; outside = out; turn = n; holds = h; inside = k })) }
-
-  limit_has : (n : ℕ) (e : Expr) → IsLimit ds e → (o : Option Span) → limit_barred e (names_after t n ds) ≡ o →
-      MaybeAt t (λ span. IsAmong span (expr_spans e)) o → Stands Caused (none_at T04 o)
-  limit_has n e out None h k = tt
-  limit_has n e out (Some span) h k = record { has = λ m. inr (inr (inr (record { expr = e; outside = out; turn = n; holds = h; inside = k }))) }
-
-  impure_has : (n : ℕ) (e : Expr) → IsInitialiser ds e → (S : Typed) → typed t e (scope_after t n ds) ≡ Ok S → (o : Option Span) →
-      impure_call (scope_after t n ds).subs S.tree ≡ o → Stands Caused (none_at T04 o)
-  impure_has n e out S g None h = tt
-  impure_has n e out S g (Some span) h =
-      let inside = impure_there t (λ z. IsAmong z (expr_spans e)) e (scope_after t n ds) S span (each_among (expr_spans e)) g h in
-      record { has = λ m. inr (inr (inl (record { expr = e; outside = out; turn = n; judged = S; judged_so = g; calls = h; inside = inside }))) }
+  barred_has names visible e out None h k = tt
+  barred_has names visible e (d, (i, is)) (Some span) h k = record {
+    has = λ n. inr (record { decl = d; stands = i; expr = e; expr_is = is; names = names; visible = visible; holds = h; inside = k });
+  }
 
   number_has : (span : Span) (names : List Entry) (T : Ty) (x : Value) → is_integer T ≡ true → InType (types_in names) no_atoms x T →
       Stands Caused (as_number span x)
@@ -190,26 +141,25 @@ module _ (t : Tests) (ds : List Decl) where
       subst (λ y. Stands Caused (as_number span y)) (sym z.1) tt
 
   module _ (given : Evaluates t ds) where
+    constants : (names : List Entry) → AreVisible t ds names → ConstantsGiven t names
+    constants names (inl (n, same)) = subst (ConstantsGiven t) same (given.each_turn n)
+    constants names (inr same) = subst (ConstantsGiven t) same given.all
+
     asks : AsksOf t ds Caused
     asks = record {
-      var_at = λ n e out.
-          var_has n e out (barred e (names_after t n ds)) refl
-          (barred_there t (λ span. IsAmong span (expr_spans e)) e (names_after t n ds) (each_among (expr_spans e)));
-      impure_at = λ n e out S g. impure_has n e out S g (impure_call (scope_after t n ds).subs S.tree) refl;
-      value_at = λ n e out S b g i. value_has _ n e out b (given.initialisers n e S b g i);
-      limit_at = λ n e out.
-          limit_has n e out (limit_barred e (names_after t n ds)) refl
-          (limit_barred_there t (λ span. IsAmong span (expr_spans e)) e (names_after t n ds) (each_among (expr_spans e)));
-      known_at = λ n e out S b so.
-          known_has _ n e out b (constant t.limit e (names_after t n ds)) refl (given.constants n e Effect.Pure S (uncalled_limit e (names_after t n ds) b) so)
-          (known_there t (λ span. IsAmong span (expr_spans e)) e (names_after t n ds) (each_among (expr_spans e)));
-      number_at = λ n e out S b so i x g.
-          number_has _ (names_after t n ds) S.ty x i
-          (given_value _ (constant t.limit e (names_after t n ds)) x (given.constants n e Effect.Pure S (uncalled_limit e (names_after t n ds) b) so) g);
+      barred_at = λ names v e out.
+          barred_has names v e out (barred e names) refl
+          (barred_there t (λ span. IsAmong span (expr_spans e)) e names (each_among (expr_spans e)));
+      known_at = λ names v e out k S b so.
+          known_has _ names v e out b (constant t.limit e names) refl (constants names v e k S b so)
+          (known_there t (λ span. IsAmong span (expr_spans e)) e names (each_among (expr_spans e)));
+      number_at =
+          λ names v e out k S b so i x g. number_has _ names S.ty x i
+          (given_value _ (constant t.limit e names) x (constants names v e k S b so) g);
       bare_at = λ s i ty init p. record { has = λ e. absurd (subst other_than (sym e) tt) };
-      first_at = λ n s i init ty is W w p.
+      first_at = λ names v s i init ty is W w p.
           let at = (found_type t ty).span in
-          first_has n s i init ty is W w (first_value t.limit at (closed W.ty)) refl (given.first at (closed W.ty))
+          first_has names v s i init ty is W w (first_value t.limit at (closed W.ty)) refl (given.first at (closed W.ty))
           (first_ends (λ span. at ≡ span) t.limit at (closed W.ty) refl);
     }
 

@@ -1,6 +1,6 @@
 -- Which codes the faults of declarations that are read have: those of the rules. What no text gives, a literal that is none and
 -- storage with neither a type nor an initialiser, has another one, and isn't met.
-use Rattle.std.proofs.Common.{◌≡◌, ℕ, inl, inr, Bool, true, false, cond, ◌||◌, List, [], ◌∷◌, Option, Some, None, Ok, refl, sym, ap₂, ◌∙◌, subst, Err}
+use Rattle.std.proofs.Common.{◌≡◌, ℕ, inl, inr, Bool, true, ◌||◌, List, [], ◌∷◌, Option, Some, None, Ok, refl, sym, ap₂, ◌∙◌, subst, Err}
 use Rattle.std.specs.Prelude.{is_some}
 use Rattle.asl_syn.specs.declared.token.Span.{Span}
 use Rattle.asl_syn.specs.declared.code.DynCode.{DynCode}
@@ -20,20 +20,15 @@ use Rattle.asl_rules.specs.values.Values.{Value}
 use Rattle.asl_rules.specs.values.Vectors.{literal_of}
 use Rattle.asl_rules.specs.types.Closed.{closed}
 use Rattle.asl_rules.specs.types.Written.{first_value}
-use Rattle.asl_rules.specs.expressions.Exprs.{found, found_type, expr_span}
-use Rattle.asl_syn.specs.declared.tree.Expr.{Expr}
-use Rattle.asl_rules.specs.runs.Plans.{Outcome, Done, Thrown, Halt, Faulted, Stuck, Pure, Good, Bad}
-use Rattle.asl_rules.specs.runs.States.{Core}
-use Rattle.asl_rules.specs.declarations.Barred.{barred, limit_barred}
-use Rattle.asl_rules.specs.declarations.ImpureCalls.{impure_call}
+use Rattle.asl_rules.specs.expressions.Exprs.{found, found_type}
+use Rattle.asl_rules.specs.runs.Plans.{Faulted, Stuck, Pure, Good, Bad}
+use Rattle.asl_rules.specs.declarations.Barred.{barred}
 use Rattle.asl_rules.specs.declarations.Constants.{constant}
-use Rattle.asl_rules.specs.declarations.InitialValues.{holds_call, evaluated, ended, run_before, value_before}
-use Rattle.asl_rules.specs.declarations.Signatures.{as_number}
-use Rattle.asl_rules.specs.declarations.Environments.{Environment, origin}
-use Rattle.asl_rules.specs.declarations.Programs.{ReadFault, default_decls, final_decls, verdict}
+use Rattle.asl_rules.specs.declarations.Declarations.{evaluated}
+use Rattle.asl_rules.specs.declarations.Programs.{as_number, origin, ReadFault, default_decls, final_decls, verdict}
 use Rattle.asl_rules.specs.private.Grown.{is_grown, AreGrown}
 use Rattle.asl_rules.proofs.basics.Tests.{no}
-use Rattle.asl_laws.specs.Evaluated.{StandsIn, names_after, scope_after, environment_after}
+use Rattle.asl_laws.specs.Evaluated.{StandsIn}
 use Rattle.asl_laws.specs.Codes.{IsOfRules, HasRuleCode}
 use Rattle.asl_laws.specs.Spans.{Mark, place, literal, Each, all_of, decl_spans}
 use Rattle.asl_laws.proofs.reading.Trees.{LiteralKept, judged_literals}
@@ -75,19 +70,6 @@ number_has span x = record { has = record { code = tt; inner = λ d h. refl } }
 
 -- ---- what no text gives
 
-ended_has : (at : Span) (r : Outcome Core Value) → Stands HasRuleCode (ended at r)
-ended_has at (Done x c h) = tt
-ended_has at (Thrown x c h) = none_has (Some at)
-ended_has at (Halt (Faulted code span) c h) = evaluated_has (Bad (Faulted code span))
-ended_has at (Halt (Stuck mistake span) c h) = evaluated_has (Bad (Stuck mistake span))
-
-value_has : (env : Environment) (e : Expr) → Stands HasRuleCode (value_before env e)
-value_has env e = by (holds_call e)
-  where
-    by : (c : Bool) → Stands HasRuleCode (cond c (ended (expr_span e) (run_before env e)) (evaluated (constant env.limit e env.names)))
-    by true = ended_has (expr_span e) (run_before env e)
-    by false = evaluated_has (constant env.limit e env.names)
-
 literal_has : (span : Span) (o : Option (List Bool)) → (bs : List Bool) × (o ≡ Some bs) → Stands HasRuleCode (found_or o S03 span)
 literal_has span None (bs, e) = absurd cc
 literal_has span (Some cs) l = tt
@@ -108,14 +90,11 @@ module _ (t : Tests) (ds : List Decl) (grown : AreGrown ds) where
 
   asks : AsksOf t ds HasRuleCode
   asks = record {
-    var_at = λ n e o. none_has (barred e (names_after t n ds));
-    impure_at = λ n e o S g. none_has (impure_call (scope_after t n ds).subs S.tree);
-    value_at = λ n e o S b g i. value_has (environment_after t n ds) e;
-    limit_at = λ n e o. none_has (limit_barred e (names_after t n ds));
-    known_at = λ n e o S b so. evaluated_has (constant t.limit e (names_after t n ds));
-    number_at = λ n e o S b so i x g. number_has (found t e).span x;
+    barred_at = λ names v e o. none_has (barred e names);
+    known_at = λ names v e o k S b so. evaluated_has (constant t.limit e names);
+    number_at = λ names v e o k S b so i x g. number_has (found t e).span x;
     bare_at = λ s i ty init p. absurd (bare s (grown_in (dc.Storage s) ds i grown) ty init);
-    first_at = λ n s i init ty q W w p. evaluated_has (first_value t.limit (found_type t ty).span (closed W.ty));
+    first_at = λ names v s i init ty q W w p. evaluated_has (first_value t.limit (found_type t ty).span (closed W.ty));
   }
 
 -- a fault of declarations that are judged has a code of the rules

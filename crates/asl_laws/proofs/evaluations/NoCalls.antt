@@ -1,19 +1,18 @@
 -- What two plans of the same parts give is shown of the expressions that hold no call by one induction over trees: where no name is called, none of the plans is one of a call.
-use Rattle.std.proofs.Common.{◌≡◌, ℕ, false, ◌≤◌, inl, inr, List, [], ◌∷◌, ◌++◌, Option, Some, None, refl, sym, ap, subst, map, ◌∙◌, arith}
+use Rattle.std.proofs.Common.{◌≡◌, ℕ, ◌≤◌, inl, inr, List, [], ◌∷◌, ◌++◌, Option, Some, None, refl, sym, ap, subst, map, ◌∙◌, arith}
 use Rattle.asl_syn.specs.declared.tree.Expr.{Expr, out-Expr, roll-Expr, out-roll-Expr}
 use Rattle.asl_syn.specs.declared.tree.Bitfield.TheOpen as ex
 use Rattle.asl_syn.specs.declared.tree.Bitfield.TheFolds.{fold-roll-Bitfield, fold-roll-ConstraintPart, fold-roll-Expr, fold-roll-FieldValue, fold-roll-Pattern, fold-roll-Slice, fold-roll-TypeExpr}
+use Rattle.asl_rules.specs.declarations.Scopes.{Entry, storage_of}
 use Rattle.asl_rules.specs.runs.States.{Core}
 use Rattle.asl_rules.specs.runs.Plans.{Meter}
 use Rattle.asl_rules.specs.declarations.Constants.{constant}
 use Rattle.asl_rules.specs.runs.Evaluation.{meaning}
-use Rattle.asl_rules.specs.declarations.Environments.{Environment}
+use Rattle.asl_rules.specs.declarations.Programs.{Environment}
 use Rattle.asl_laws.specs.BeforeRuns.{HoldsInitial, EndsSo}
 use Rattle.asl_rules.specs.declarations.UsedNames.{Use, Uses, of_value, of_subprogram, of_type, Each, or_else, first_said, joined, in_bitfield, in_part, in_expr, in_field, in_pattern, in_slice, in_type, bitfield_uses, part_uses, given_uses, expr_uses, pattern_uses, slice_uses, type_uses}
-use Rattle.asl_rules.specs.declarations.Scopes.{Entry, storage_of}
-use Rattle.asl_rules.specs.declarations.Barred.{at_var, limit_barred_at, limit_barred}
-use Rattle.asl_rules.specs.declarations.InitialValues.{any_call, holds_call}
-use Rattle.asl_rules.proofs.basics.Tests.{no, none_some}
+use Rattle.asl_rules.specs.declarations.Barred.{at_var, barred_at, barred}
+use Rattle.asl_rules.proofs.basics.Tests.{none_some}
 use Rattle.asl_laws.proofs.constants.KnownTwins.{OfBitfield, OfPart, OfField, OfPattern, OfSlice, OfType, BitfieldBelow, PartBelow, ExprBelow, FieldBelow, PatternBelow, SliceBelow, TypeBelow, bitfield_trees, part_trees, expr_trees, field_trees, pattern_trees, slice_trees, type_trees, MayCall, PlansTwin, layer_twin, bitfield_step, part_step, field_step, pattern_step, slice_step, type_step}
 use Rattle.asl_laws.proofs.constants.KnownEnough.{Bounded, node_bound, ends_so}
 use Rattle.asl_laws.proofs.spans.Inductions.{Shown, BitfieldNode, ConstraintPartNode, ExprNode, FieldValueNode, PatternNode, SliceNode, TypeExprNode, bitfield_trees as shown_bitfield, part_trees as shown_part, expr_trees as shown_expr, given_trees as shown_given, pattern_trees as shown_pattern, slice_trees as shown_slice, type_trees as shown_type, each_expr}
@@ -34,25 +33,15 @@ said_later : {A : Type 0} (o rest : Option A) → or_else o rest ≡ None → re
 said_later None rest h = h
 said_later (Some x) rest h = none_some x (sym h)
 
--- where none is said to be a call, none is one
-none_called : (us : Uses) → any_call us ≡ false → NoCalls us
-none_called [] h = tt
-none_called (of_value span name ∷ us) h = (tt, none_called us h)
-none_called (of_subprogram span name ∷ us) h = no (sym h)
-none_called (of_type name ∷ us) h = (tt, none_called us h)
+-- where none is barred, none is a call
+none_called : (names : List Entry) (us : Uses) → first_said (barred_at names) us ≡ None → NoCalls us
+none_called names [] h = tt
+none_called names (of_value span name ∷ us) h = (tt, none_called names us (said_later (at_var span (storage_of name names)) (first_said (barred_at names) us) h))
+none_called names (of_subprogram span name ∷ us) h = none_some span (sym h)
+none_called names (of_type name ∷ us) h = (tt, none_called names us h)
 
-pub uncalled_uses : (e : Expr) → holds_call e ≡ false → NoCalls (expr_uses e)
-uncalled_uses e h = none_called (expr_uses e) h
-
--- a limit that holds nothing that is barred there holds no call
-limit_called : (names : List Entry) (us : Uses) → first_said (limit_barred_at names) us ≡ None → any_call us ≡ false
-limit_called names [] h = refl
-limit_called names (of_value span name ∷ us) h = limit_called names us (said_later (at_var span (storage_of name names)) (first_said (limit_barred_at names) us) h)
-limit_called names (of_subprogram span name ∷ us) h = none_some span (sym h)
-limit_called names (of_type name ∷ us) h = limit_called names us h
-
-pub uncalled_limit : (e : Expr) (names : List Entry) → limit_barred e names ≡ None → holds_call e ≡ false
-uncalled_limit e names h = limit_called names (expr_uses e) h
+pub unbarred_calls : (e : Expr) (names : List Entry) → barred e names ≡ None → NoCalls (expr_uses e)
+unbarred_calls e names h = none_called names (expr_uses e) h
 
 -- ---- parts in a list
 
@@ -206,9 +195,9 @@ module _ (env : Environment) (c : Core) (holds : HoldsInitial env c) where
     pub nodes : ℕ
     pub so : (h : Meter) → nodes ≤ h.steps → EndsSo c (constant env.limit e env.names) ((meaning env nodes).expr e c h)
 
-  pub ends_uncalled : (e : Expr) → holds_call e ≡ false → Ends e
+  pub ends_uncalled : (e : Expr) → barred e env.names ≡ None → Ends e
   ends_uncalled e b =
-      let w = uncalled e (uncalled_uses e b) in
+      let w = uncalled e (unbarred_calls e env.names b) in
       record {
         nodes = w.n;
         so = λ h j. elim (ends_so env c ⊥ e w w.n h (omega arith) j) [

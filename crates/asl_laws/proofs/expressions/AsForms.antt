@@ -45,7 +45,7 @@ use Rattle.asl_laws.proofs.expressions.TreePlans.{Out, Same, behind_more_same, a
 use Rattle.asl_laws.proofs.expressions.SizeForms.{type_says}
 use Rattle.asl_laws.proofs.expressions.ExprForms.{Formed, formed}
 
-module _ (tests : Tests) (right : IsRight tests) (ds : List Decl) (base : List Entry) (gv : Assignment) (subs : List Signature) (loose : Bool) (funcs : List TreeFunc) (w : WellNamed base) where
+module _ (tests : Tests) (right : IsRight tests) (ds : List Decl) (base : List Entry) (subs : List Signature) (loose : Bool) (funcs : List TreeFunc) (w : WellNamed base) where
   -- a value of the kind of a type: it goes through the type, or D07
   within_gives : (av : Assignment) (b : Bool) (span : Span) (T : Ty) (x : Value) → Built (types_in base) x → has x (type_with T av) ≡ b → Gives (types_in base) av T (cond b (Good (viewed (type_with T av) x)) (Bad (Faulted D07 span)))
   within_gives av true span T x b h = (viewed_has (type_with T av) x h, viewed_built (types_in base) (type_with T av) x b, viewed_twice (type_with T av) x)
@@ -56,21 +56,21 @@ module _ (tests : Tests) (right : IsRight tests) (ds : List Decl) (base : List E
       let e : kind_eq (kind_of x) (kind_at (type_with T av)) ≡ true = ap (λ m. kind_eq m (kind_at (type_with T av))) (has_kind av S x i.0) ∙ ap (kind_eq (kind S)) (kind_same T av) ∙ k in
       subst (λ b. Gives (types_in base) av T (cond b (in_type span (type_with T av) x) (Bad (Stuck WrongKind span)))) (sym e) (within_gives av (has x (type_with T av)) span T x i.1 refl)
 
-  pub as_formed : (H : Here) (S : Typed) (span : Span) (e : Expr) (t : TypeExpr) (c : Core) → ((T : Typed) → typed tests e H.scope ≡ Ok T → WellFormed (types_in base) T.ty) → as_rule span (found tests e) (found_type tests t) H.scope ≡ Ok S → At tests base gv subs loose H c → Formed tests right ds base gv subs loose funcs w H S (ex.As span e t) c
+  pub as_formed : (H : Here) (S : Typed) (span : Span) (e : Expr) (t : TypeExpr) (c : Core) → ((T : Typed) → typed tests e H.scope ≡ Ok T → WellFormed (types_in base) T.ty) → as_rule span (found tests e) (found_type tests t) H.scope ≡ Ok S → At tests base subs loose H c → Formed tests right ds base subs loose funcs w H S (ex.As span e t) c
   as_formed H S span e t c good h a =
       let s = bind_ok (typed tests e H.scope) _ S h in
       let v = bind_ok (written tests t false H.scope) _ S s.then in
       let k = then_ok (need (same_kind s.value.ty v.value.ty) T05 span) _ S v.then in
-      let names_good = scope_good H.present base gv H.scope.names c w a.agrees in
+      let names_good = scope_good H.present base H.scope.names c w a.agrees in
       let to_well = written_formed tests right (types_in base) (well_declared base w) t false H.scope v.value names_good v.first in
       let of_kind = one_kind (types_in base) (well_declared base w) s.value.ty v.value.ty (good s.value s.first).shaped to_well.shaped (need_ok (same_kind s.value.ty v.value.ty) T05 span tt k.first) in
-      let q = type_says tests right base gv subs loose H (λ name T o. type_fixed (types_in base) H.scope.names name names_good T o) (λ name. same_types H.present base gv H.scope.names c name a.agrees) t false v.value v.first in
+      let q = type_says tests right base subs loose H (λ name T o. type_fixed (types_in base) H.scope.names name names_good T o) (λ name. same_types H.present base H.scope.names c name a.agrees) t false v.value v.first in
       let make : Note → Tree = λ n. tree.As n s.value.tree v.value.shape (trees_from v.value.sizes) in
       let f : Value → List Value → PureOf Value = λ x zs. converted tests.limit span ((type_parts t).shape (types_among base)) zs x in
       let g : Value → List Value → PureOf Value = λ x zs. converted tests.limit span (Some v.value.shape) zs x in
-      formed tests right ds base gv subs loose funcs w H S (ex.As span e t) c span v.value.ty s.value.effect make (in_class_is H.scope.class span s.value.effect v.value.ty make S k.then) refl
-      (subst (λ ts. Same tests right base gv subs loose H (Out tests right base gv subs loose H v.value.ty) (behind_more e (type_parts t).exprs c f) (behind_more s.value.tree ts (erased c) g)) (sym (list_from v.value.sizes))
-      (behind_more_same tests right base gv subs loose H v.value.ty e s.value (type_parts t).exprs v.value.sizes q.asked c f g s.first q.asks a
+      formed tests right ds base subs loose funcs w H S (ex.As span e t) c span v.value.ty s.value.effect make (in_class_is H.scope.class span s.value.effect v.value.ty make S k.then) refl
+      (subst (λ ts. Same tests right base subs loose H (Out tests right base subs loose H v.value.ty) (behind_more e (type_parts t).exprs c f) (behind_more s.value.tree ts (erased c) g)) (sym (list_from v.value.sizes))
+      (behind_more_same tests right base subs loose H v.value.ty e s.value (type_parts t).exprs v.value.sizes q.asked c f g s.first q.asks a
       (λ x xs i l.
       let e2 : f x xs ≡ g x xs = ap (λ o. converted tests.limit span o xs x) q.shape_is in
       let fills = q.fills span xs [] l in

@@ -129,7 +129,7 @@ caller_at (by_stmt j s) = record { scope = j.body.scope; present = j.present; ar
 abbrev pub IsOutermost : Frame → List Frame → List ℕ → Type 0
 IsOutermost f fs ids = (f ≡ record { names = []; handled = [] }) × (fs ≡ []) × (ids ≡ [])
 
-module _ (tests : Tests) (base : List Entry) (gv : Assignment) (subs : List Signature) (loose : Bool) where
+module _ (tests : Tests) (base : List Entry) (subs : List Signature) (loose : Bool) where
   -- what is known of the body that a node stands in, where one may stand outside bodies too
   abbrev pub Bound : Type 0 → Type 0
   Bound P = (loose ≡ true) ⊎ P
@@ -144,7 +144,7 @@ module _ (tests : Tests) (base : List Entry) (gv : Assignment) (subs : List Sign
     pub caller : Caller
     pub is_caller : IsCaller caller id
     pub globals : List Binding
-    pub agrees : Agrees base gv (caller_at caller).scope.names (caller_at caller).present (waiting globals f fs ids)
+    pub agrees : Agrees base (caller_at caller).scope.names (caller_at caller).present (waiting globals f fs ids)
     pub subs_are : (caller_at caller).scope.subs ≡ subs
     pub counted : Bound (Ruled (caller_at caller).scope.names (caller_at caller).scope.subs)
     pub around_is : around_of (waiting globals f fs ids) ≡ (caller_at caller).around
@@ -161,7 +161,7 @@ module _ (tests : Tests) (base : List Entry) (gv : Assignment) (subs : List Sign
   -- the state agrees with the scope, whose subprograms are those of the program, and of which the rules of scopes hold, and what is
   -- around its frame is what was there
   pub record At (H : Here) (c : Core) : Type 0 where
-    pub agrees : Agrees base gv H.scope.names H.present c
+    pub agrees : Agrees base H.scope.names H.present c
     pub subs_are : H.scope.subs ≡ subs
     pub around_is : around_of c ≡ H.around
     pub stands : Stands H.scope.class H.around
@@ -170,12 +170,12 @@ module _ (tests : Tests) (base : List Entry) (gv : Assignment) (subs : List Sign
   -- where an exception comes out: the class of the scope is that of what writes, and the state agrees with these names, and maybe with more
   -- behind them, at an assignment that is the same on them
   pub record Over (class : Effect) (names : List Entry) (a : Assignment) (around : Around) (x : Value) (c : Core) : Type 0 where
-    pub raised : Raised (types_in base) gv x
+    pub raised : Raised (types_in base) x
     pub writes : at_most Writes class ≡ true
     pub more : List Entry
     pub later : Assignment
     pub same : SameOn names a later
-    pub agrees : Agrees base gv (names ++ more) later c
+    pub agrees : Agrees base (names ++ more) later c
     pub around_is : around_of c ≡ around
 
   -- an expression with its typed tree
@@ -200,7 +200,7 @@ module _ (tests : Tests) (base : List Entry) (gv : Assignment) (subs : List Sign
     pub reached : falls ≡ true
     pub later : Assignment
     pub same : SameOn j.body.scope.names j.present later
-    pub agrees : Agrees base gv j.done.names later c
+    pub agrees : Agrees base j.done.names later c
     pub around_is : around_of c ≡ j.around
 
   -- one that returns
@@ -208,7 +208,7 @@ module _ (tests : Tests) (base : List Entry) (gv : Assignment) (subs : List Sign
     pub gives : GivesResult (types_in base) j.params j.body.result o
     pub more : List Entry
     pub later : Assignment
-    pub agrees : Agrees base gv (j.body.scope.names ++ more) later c
+    pub agrees : Agrees base (j.body.scope.names ++ more) later c
     pub around_is : around_of c ≡ j.around
 
   abbrev pub Ends : StmtClaim → Bool → Exit → Core → Type 0
@@ -226,7 +226,7 @@ module _ (tests : Tests) (base : List Entry) (gv : Assignment) (subs : List Sign
     stmt_in = λ j s t c. StmtIn j.0 s t c × (j.1 ≡ falls s);
     stmt_out = λ j x c. Ends j.0 j.1 x c;
     stmt_thrown = λ j x c. Over j.0.body.scope.class j.0.body.scope.names j.0.present j.0.around x c;
-    halted = λ c. GlobalsMatch base gv c.globals;
+    halted = λ c. GlobalsMatch base c.globals;
   }
 
   -- and several of them at once

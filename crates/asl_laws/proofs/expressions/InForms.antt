@@ -33,25 +33,24 @@ use Rattle.asl_laws.proofs.expressions.TreePlans.{Out, Same, behind_more_same, a
 use Rattle.asl_laws.proofs.expressions.MatchForms.{Decided, pattern_says}
 use Rattle.asl_laws.proofs.expressions.ExprForms.{Formed, formed}
 use Rattle.asl_rules.specs.private.WellFormed.{WellFormed}
-use Rattle.asl_rules.specs.types.Closed.{Assignment}
 
-module _ (tests : Tests) (right : IsRight tests) (ds : List Decl) (base : List Entry) (gv : Assignment) (subs : List Signature) (loose : Bool) (funcs : List TreeFunc) (w : WellNamed base) where
+module _ (tests : Tests) (right : IsRight tests) (ds : List Decl) (base : List Entry) (subs : List Signature) (loose : Bool) (funcs : List TreeFunc) (w : WellNamed base) where
   decided_gives : (H : Here) (r : PureOf Matched) → Decided r [] → Gives (types_in base) H.present boolean (((r >>= λ m. matched false m.left >>= λ n. matched (m.holds || n.holds) n.left) >>= λ m. Good m.holds) >>= λ b. Good (bool b))
   decided_gives H (Good m) h = (refl, tt, refl)
   decided_gives H (Bad (Faulted code span)) h = tt
   decided_gives H (Bad (Stuck mistake span)) h = absurd h
 
-  pub in_formed : (H : Here) (S : Typed) (span : Span) (e : Expr) (p : Pattern) (c : Core) → ((T : Typed) → typed tests e H.scope ≡ Ok T → WellFormed (types_in base) T.ty) → ((f : Expr) (T : Typed) → typed tests f (with_class H.scope Pure) ≡ Ok T → WellFormed (types_in base) T.ty) → in_rule span (found tests e) (found_pattern tests p) H.scope ≡ Ok S → At tests base gv subs loose H c → Formed tests right ds base gv subs loose funcs w H S (ex.In span e p) c
+  pub in_formed : (H : Here) (S : Typed) (span : Span) (e : Expr) (p : Pattern) (c : Core) → ((T : Typed) → typed tests e H.scope ≡ Ok T → WellFormed (types_in base) T.ty) → ((f : Expr) (T : Typed) → typed tests f (with_class H.scope Pure) ≡ Ok T → WellFormed (types_in base) T.ty) → in_rule span (found tests e) (found_pattern tests p) H.scope ≡ Ok S → At tests base subs loose H c → Formed tests right ds base subs loose funcs w H S (ex.In span e p) c
   in_formed H S span e p c good pure_good h a =
       let t = bind_ok (typed tests e H.scope) _ S h in
       let m = bind_ok (found_pattern tests p t.value.ty (with_class H.scope Pure)) _ S t.then in
-      let q = pattern_says tests right base gv subs loose H p t.value.ty m.value (record { declared = well_declared base w; formed = pure_good }) (good t.value t.first).shaped m.first in
+      let q = pattern_says tests right base subs loose H p t.value.ty m.value (record { declared = well_declared base w; formed = pure_good }) (good t.value t.first).shaped m.first in
       let make : Note → Tree = λ n. tree.In n t.value.tree m.value.shape (trees_from m.value.trees) in
       let f : Value → List Value → PureOf Value = λ x zs. matched_in tests.limit (pattern_parts p).shape zs x in
       let g : Value → List Value → PureOf Value = λ x zs. matched_in tests.limit m.value.shape zs x in
-      formed tests right ds base gv subs loose funcs w H S (ex.In span e p) c span boolean t.value.effect make (in_class_is H.scope.class span t.value.effect boolean make S m.then) refl
-      (subst (λ ts. Same tests right base gv subs loose H (Out tests right base gv subs loose H boolean) (behind_more e (pattern_parts p).exprs c f) (behind_more t.value.tree ts (erased c) g)) (sym (list_from m.value.trees))
-      (behind_more_same tests right base gv subs loose H boolean e t.value (pattern_parts p).exprs m.value.trees q.asked c f g t.first q.asks a
+      formed tests right ds base subs loose funcs w H S (ex.In span e p) c span boolean t.value.effect make (in_class_is H.scope.class span t.value.effect boolean make S m.then) refl
+      (subst (λ ts. Same tests right base subs loose H (Out tests right base subs loose H boolean) (behind_more e (pattern_parts p).exprs c f) (behind_more t.value.tree ts (erased c) g)) (sym (list_from m.value.trees))
+      (behind_more_same tests right base subs loose H boolean e t.value (pattern_parts p).exprs m.value.trees q.asked c f g t.first q.asks a
       (λ x xs i l.
       let e2 : f x xs ≡ g x xs = ap (λ s. matched_in tests.limit s xs x) q.shape_is in (
         e2,

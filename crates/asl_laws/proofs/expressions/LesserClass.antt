@@ -1,14 +1,14 @@
 -- In each lesser class that its effect keeps to, an expression has the same type, effect and tree: a class refuses, and decides nothing
 -- else. What is found in widths, and at written types, is the same in each class.
-use Rattle.std.proofs.Common.{◌≡◌, ℕ, Bool, List, [], ◌∷◌, ◌++◌, map, length, Option, Some, None, Ok, Err, refl, sym, ap, ◌∙◌, subst, true, false}
+use Rattle.std.proofs.Common.{◌≡◌, ℕ, Bool, true, false, List, [], ◌∷◌, ◌++◌, map, length, Option, Some, None, Ok, Err}
+use Rattle.std.proofs.Common.{refl, sym, ap, ◌∙◌, subst}
 use Rattle.std.specs.Prelude.{Result, ◌==◌}
 use Rattle.asl_syn.specs.declared.token.Span.{Span}
 use Rattle.asl_syn.specs.declared.code.Fault.{Fault}
-use Rattle.asl_syn.specs.declared.code.StaticCode.TheVariants.{S03, T02, T05, T09, T11, T12, T13, T15, T18, T20}
+use Rattle.asl_syn.specs.declared.code.StaticCode.TheVariants.{S03, T02, T05, T11, T12, T13, T15, T18, T20}
 use Rattle.asl_syn.specs.declared.tree.Ident.{Ident}
 use Rattle.asl_syn.specs.declared.tree.UnaryOperator.{UnaryOperator}
 use Rattle.asl_syn.specs.declared.tree.UnaryOperator.TheVariants as unary
-use Rattle.asl_syn.specs.declared.tree.BinaryOperator.{BinaryOperator}
 use Rattle.asl_syn.specs.declared.tree.Expr.{Expr}
 use Rattle.asl_syn.specs.declared.tree.Bitfield.TheOpen as ex
 use Rattle.asl_syn.specs.declared.tree.Bitfield.TheFolds.{map-Bitfield, map-ConstraintPart, map-Expr, map-FieldValue}
@@ -19,11 +19,11 @@ use Rattle.asl_rules.specs.declared.joining.Joining.{Joining}
 use Rattle.asl_rules.specs.declared.joining.Joining.TheVariants.{Combines, Divides, JoinsNothing}
 use Rattle.asl_rules.specs.Faults.{◌>>=◌, ◌>>◌, need, found_or, fault_of}
 use Rattle.asl_rules.specs.Tests.{Tests}
-use Rattle.asl_rules.specs.types.Types.{Ty, Parts, join, substitute, is_boolean, same_kind, boolean, tuple_of, bits_of, bits_wide, bare}
+use Rattle.asl_rules.specs.types.Types.{Ty, join, substitute, is_boolean, same_kind, boolean, tuple_of, bits_of, bits_wide, bare}
 use Rattle.asl_rules.specs.types.Effects.{at_most, greater, greatest, together, all_together}
 use Rattle.asl_rules.specs.types.Widths.{Total, bounded, totalled}
 use Rattle.asl_rules.specs.types.Arithmetic.{joining, reading_of_two}
-use Rattle.asl_rules.specs.types.Writing.{FoundPart, FoundBitfield, FoundType, Written, all_parts, all_fields, types_in_order}
+use Rattle.asl_rules.specs.types.Writing.{FoundPart, FoundBitfield, FoundType, all_parts, all_fields, types_in_order}
 use Rattle.asl_rules.specs.types.Writing.{integer_written, bits_written, tuple_written, converted_to}
 use Rattle.asl_rules.specs.runs.Trees as tree
 use Rattle.asl_rules.specs.runs.Trees.{Note, Tree, FieldGiven, own, of_library}
@@ -44,7 +44,7 @@ use Rattle.asl_rules.specs.expressions.Typing.{typed_as, in_class, finish, finis
 use Rattle.asl_rules.specs.expressions.Operations.{operation, operation_of_two, unary_rule, binary_rule}
 use Rattle.asl_rules.specs.expressions.Slicing.{FoundSlice, all_operands, all_add, no_width, shapes_of, sliceable, sliced_width}
 use Rattle.asl_rules.specs.expressions.Slicing.{slices_behind, slices_rule}
-use Rattle.asl_rules.specs.expressions.Patterns.{FoundPattern, Matched, matching}
+use Rattle.asl_rules.specs.expressions.Patterns.{FoundPattern, matching}
 use Rattle.asl_rules.specs.expressions.Calls.{Replacing, both_fit, call_begun, call_tree, polys, replaced_by, routine_type}
 use Rattle.asl_rules.specs.expressions.Calls.{chosen, function_of, function_called, given, routine_called}
 use Rattle.asl_rules.specs.expressions.Calls.{routine_params, routine_taken, widths_given, widths_rule, written_first}

@@ -74,7 +74,7 @@ same_tuple : (xs ys : Values) → tuple_with xs ≡ tuple_with ys → xs ≡ ys
 unfolding tuple_values
 same_tuple xs ys h = ap tuple_values h
 
-module _ (tests : Tests) (right : IsRight tests) (base : List Entry) (gv : Assignment) (subs : List Signature) (loose : Bool) (H : Here) where
+module _ (tests : Tests) (right : IsRight tests) (base : List Entry) (subs : List Signature) (loose : Bool) (H : Here) where
   abbrev d : List ℕ → Option Ty
   d = types_in base
 
@@ -82,10 +82,10 @@ module _ (tests : Tests) (right : IsRight tests) (base : List Entry) (gv : Assig
   av = H.present
 
   abbrev Asks : List Expr → List Tree → List Asked → Type 0
-  Asks es ts qs = AllAsked tests right base gv subs loose H.scope es ts qs
+  Asks es ts qs = AllAsked tests right base subs loose H.scope es ts qs
 
   abbrev Give : List Asked → List Value → Type 0
-  Give qs xs = AllGive tests right base gv subs loose H qs xs
+  Give qs xs = AllGive tests right base subs loose H qs xs
 
   pub asks_both : (es fs : List Expr) (ts us : List Tree) (qs rs : List Asked) → Asks es ts qs → Asks fs us rs → Asks (es ++ fs) (ts ++ us) (qs ++ rs)
   asks_both [] fs [] us [] rs h k = k

@@ -94,15 +94,15 @@ numeric_both : (qs rs : List Asked) → AllNumeric qs → AllNumeric rs → AllN
 numeric_both [] rs a b = b
 numeric_both (q ∷ qs) rs a b = (a.0, numeric_both qs rs a.1 b)
 
-module _ (tests : Tests) (right : IsRight tests) (base : List Entry) (gv : Assignment) (subs : List Signature) (loose : Bool) (H : Here) (fixed : (name : List ℕ) (T : Ty) → type_of_name name H.scope.names ≡ Some T → Fixed T) (same : (name : List ℕ) → type_of_name name base ≡ type_of_name name H.scope.names) where
+module _ (tests : Tests) (right : IsRight tests) (base : List Entry) (subs : List Signature) (loose : Bool) (H : Here) (fixed : (name : List ℕ) (T : Ty) → type_of_name name H.scope.names ≡ Some T → Fixed T) (same : (name : List ℕ) → type_of_name name base ≡ type_of_name name H.scope.names) where
   abbrev av : Assignment
   av = H.present
 
   abbrev Asks : List Expr → List Tree → List Asked → Type 0
-  Asks es ts qs = AllAsked tests right base gv subs loose H.scope es ts qs
+  Asks es ts qs = AllAsked tests right base subs loose H.scope es ts qs
 
   abbrev Give : List Asked → List Value → Type 0
-  Give qs xs = AllGive tests right base gv subs loose H qs xs
+  Give qs xs = AllGive tests right base subs loose H qs xs
 
   abbrev Ratios : List Asked → List Fraction → Type 0
   Ratios qs rs = AllRatios av qs rs
@@ -168,14 +168,14 @@ module _ (tests : Tests) (right : IsRight tests) (base : List Entry) (gv : Assig
   one_range : (q : Asked) (z : ℤ) (P : Part) (xs rest : List Value) (k : List Value → Option SizedRanges) → Ends q z P → Give (q ∷ []) xs →
       part_range only (xs ++ rest) k ≡ with_range (ceiling (end_at P.low av)) (floor (end_at P.high av)) (k rest)
   one_range q z P xs rest k f h =
-      one_value tests right base gv subs loose H (λ zs. part_range only zs k ≡ with_range (ceiling (end_at P.low av)) (floor (end_at P.high av)) (k rest)) q xs rest h
+      one_value tests right base subs loose H (λ zs. part_range only zs k ≡ with_range (ceiling (end_at P.low av)) (floor (end_at P.high av)) (k rest)) q xs rest h
       (λ y i. let e = f y i in ap (λ v. part_range only (v ∷ rest) k) e.0 ∙ ap (λ v. with_range v z (k rest)) (sym e.1) ∙ ap (λ v. with_range (ceiling (end_at P.low av)) v (k rest)) (sym e.2))
 
   two_ranges : (q r : Asked) (y z : ℤ) (P Q : Part) (xs rest : List Value) (k : List Value → Option SizedRanges) → Ends q y P → Ends r z Q →
       Give (q ∷ r ∷ []) xs →
       part_range from_to (xs ++ rest) k ≡ with_range (ceiling (end_at P.low av)) (floor (end_at Q.high av)) (k rest)
   two_ranges q r y z P Q xs rest k f f2 h =
-      two_values tests right base gv subs loose H (λ zs. part_range from_to zs k ≡ with_range (ceiling (end_at P.low av)) (floor (end_at Q.high av)) (k rest)) q r xs rest h
+      two_values tests right base subs loose H (λ zs. part_range from_to zs k ≡ with_range (ceiling (end_at P.low av)) (floor (end_at Q.high av)) (k rest)) q r xs rest h
       (λ v u i j.
       let e = f v i in
       let g = f2 u j in
@@ -283,7 +283,7 @@ module _ (tests : Tests) (right : IsRight tests) (base : List Entry) (gv : Assig
         numeric = (tt, tt);
         shape_is = refl;
         asks = (p.first, refl, tt);
-        places = λ xs rest k hi lo e1 e2 g. one_value tests right base gv subs loose H (λ zs. bitfield_at (shapes.one_place i.text) zs k ≡ with_bitfield i.text hi lo (k rest)) (of_width p.value) xs rest g
+        places = λ xs rest k hi lo e1 e2 g. one_value tests right base subs loose H (λ zs. bitfield_at (shapes.one_place i.text) zs k ≡ with_bitfield i.text hi lo (k rest)) (of_width p.value) xs rest g
             (λ y j. ap (λ v. bitfield_at (shapes.one_place i.text) (v ∷ rest) k) (j.0 ∙ ap int e1) ∙ ap (λ n. with_bitfield i.text hi n (k rest)) (same_pos hi lo (sym e1 ∙ e2)));
         present = λ rs rest hi lo e1 e2 g.
             one_ratio av (λ ss. bitfield_by (shapes.one_place i.text) ss ≡ Some (record { made = record { name = i.text; high = hi; low = lo }; left = rest })) (of_width p.value) rs rest g
@@ -308,7 +308,7 @@ module _ (tests : Tests) (right : IsRight tests) (base : List Entry) (gv : Assig
         numeric = (tt, (tt, tt));
         shape_is = refl;
         asks = (p.first, refl, (q.first, refl, tt));
-        places = λ xs rest k hi lo e1 e2 g. two_values tests right base gv subs loose H (λ zs. bitfield_at (shapes.many_places i.text) zs k ≡ with_bitfield i.text hi lo (k rest)) (of_width p.value) (of_width q.value) xs rest g
+        places = λ xs rest k hi lo e1 e2 g. two_values tests right base subs loose H (λ zs. bitfield_at (shapes.many_places i.text) zs k ≡ with_bitfield i.text hi lo (k rest)) (of_width p.value) (of_width q.value) xs rest g
             (λ v u j l. ap (λ t. bitfield_at (shapes.many_places i.text) (t ∷ u ∷ rest) k) (j.0 ∙ ap int e1) ∙ ap (λ t. bitfield_at (shapes.many_places i.text) (int (pos hi) ∷ t ∷ rest) k) (l.0 ∙ ap int e2));
         present = λ rs rest hi lo e1 e2 g.
             two_ratios av (λ ss. bitfield_by (shapes.many_places i.text) ss ≡ Some (record { made = record { name = i.text; high = hi; low = lo }; left = rest })) (of_width p.value) (of_width q.value) rs rest g
@@ -363,9 +363,9 @@ module _ (tests : Tests) (right : IsRight tests) (base : List Entry) (gv : Assig
         asked = a.asked ++ b.asked;
         numeric = numeric_both a.asked b.asked a.numeric b.numeric;
         shapes_are = ap (λ q. q ∷ shapes_in range_parts (map (λ p. p.0) ps)) a.shape_is ∙ ap (λ l. s.value.shape ∷ l) b.shapes_are;
-        asks = asks_both tests right base gv subs loose H (range_parts p.0).exprs (exprs_in range_parts (map (λ p. p.0) ps)) s.value.trees (part_trees r.value) a.asked b.asked a.asks b.asks;
+        asks = asks_both tests right base subs loose H (range_parts p.0).exprs (exprs_in range_parts (map (λ p. p.0) ps)) s.value.trees (part_trees r.value) a.asked b.asked a.asks b.asks;
         ranges = λ xs rest g.
-            let v = split tests right base gv subs loose H a.asked b.asked xs g in
+            let v = split tests right base subs loose H a.asked b.asked xs g in
             ap (λ l. part_range s.value.shape (l ++ rest) (all_ranges (part_shapes r.value))) v.are
             ∙ ap (λ l. part_range s.value.shape l (all_ranges (part_shapes r.value))) (append_assoc v.first v.second rest)
             ∙ a.ranges v.first (v.second ++ rest) (all_ranges (part_shapes r.value)) v.own
@@ -461,9 +461,9 @@ module _ (tests : Tests) (right : IsRight tests) (base : List Entry) (gv : Assig
         asked = a.asked ++ c.asked;
         numeric = numeric_both a.asked c.asked a.numeric c.numeric;
         shapes_are = ap (λ q. q ∷ shapes_in bitfield_parts (map (λ b. b.0) bs)) a.shape_is ∙ ap (λ l. s.value.shape ∷ l) c.shapes_are;
-        asks = asks_both tests right base gv subs loose H (bitfield_parts b.0).exprs (exprs_in bitfield_parts (map (λ b. b.0) bs)) s.value.trees (field_trees r.value) a.asked c.asked a.asks c.asks;
+        asks = asks_both tests right base subs loose H (bitfield_parts b.0).exprs (exprs_in bitfield_parts (map (λ b. b.0) bs)) s.value.trees (field_trees r.value) a.asked c.asked a.asks c.asks;
         view = λ span z ns u xs rest n p g.
-            let v = split tests right base gv subs loose H a.asked c.asked xs g in
+            let v = split tests right base subs loose H a.asked c.asked xs g in
             let q = first_placed s.value r.value span z ns u n p in
             ap (λ l. bitfield_at s.value.shape (l ++ rest) (all_bitfields (field_shapes r.value))) v.are
             ∙ ap (λ l. bitfield_at s.value.shape l (all_bitfields (field_shapes r.value))) (append_assoc v.first v.second rest)
@@ -512,9 +512,9 @@ module _ (tests : Tests) (right : IsRight tests) (base : List Entry) (gv : Assig
         asked = a.asked ++ b.asked;
         numeric = numeric_both a.asked b.asked a.numeric b.numeric;
         shapes_are = ap (λ o. first_shape o (shaped.type_shapes (types_among base) (shapes_in type_parts (map (λ t. t.0) ts)))) a.shape_is ∙ ap (first_shape (Some s.value.shape)) b.shapes_are;
-        asks = asks_both tests right base gv subs loose H (type_parts t.0).exprs (exprs_in type_parts (map (λ t. t.0) ts)) s.value.sizes (all_sizes r.value) a.asked b.asked a.asks b.asks;
+        asks = asks_both tests right base subs loose H (type_parts t.0).exprs (exprs_in type_parts (map (λ t. t.0) ts)) s.value.sizes (all_sizes r.value) a.asked b.asked a.asks b.asks;
         fills = λ whole xs rest g.
-            let v = split tests right base gv subs loose H a.asked b.asked xs g in
+            let v = split tests right base subs loose H a.asked b.asked xs g in
             let f = a.fills whole v.first (v.second ++ rest) v.own in
             let k = b.fills whole v.second rest v.others in
             record {
@@ -697,7 +697,7 @@ module _ (tests : Tests) (right : IsRight tests) (base : List Entry) (gv : Assig
         numeric = (tt, a.numeric);
         shape_is = ap (λ l. Some (shapes.bits_of span l)) (fields_same (map (λ b. b.0) bs) ∙ a.shapes_are);
         asks = (w.first, refl, subst (λ l. Asks l (field_trees x.value) a.asked) (sym (field_exprs_same (map (λ b. b.0) bs))) a.asks);
-        fills = λ whole xs rest g. one_first tests right base gv subs loose H (λ zs. Fills (bits_of w.value.poly v.value) (width_filled tests.limit span (field_shapes x.value) (zs ++ rest)) rest) (of_width w.value) a.asked xs g
+        fills = λ whole xs rest g. one_first tests right base subs loose H (λ zs. Fills (bits_of w.value.poly v.value) (width_filled tests.limit span (field_shapes x.value) (zs ++ rest)) rest) (of_width w.value) a.asked xs g
             (λ y ys i j. bits_fill span whole tests.limit w.value.poly v.value (field_shapes x.value) y (ys ++ rest) rest i.0 (view_fills (map (λ b. b.0) bs) x.value a span w.value.poly v.value ys rest v.first j));
         present = λ rs rest g.
             first_ratio av (λ ss. bits_by (field_shapes x.value) (ss ++ rest) ≡ Some (record { made = cl.bits_of (width_at w.value.poly av) v.value; left = rest })) (of_width w.value) a.asked rs g
@@ -735,7 +735,7 @@ module _ (tests : Tests) (right : IsRight tests) (base : List Entry) (gv : Assig
         numeric = (tt, a.numeric);
         shape_is = ap (option_map (λ s. shapes.array_of s)) a.shape_is;
         asks = (w.first, refl, a.asks);
-        fills = λ whole xs rest g. one_first tests right base gv subs loose H (λ zs. Fills b.value (by_length (zs ++ rest) (filled tests.limit whole u.value.shape)) rest) (of_width w.value) a.asked xs g
+        fills = λ whole xs rest g. one_first tests right base subs loose H (λ zs. Fills b.value (by_length (zs ++ rest) (filled tests.limit whole u.value.shape)) rest) (of_width w.value) a.asked xs g
             (λ y ys i j. resized (array_of n.value u.value.ty) b.value _ rest (bounded_ok span (array_of n.value u.value.ty) b.value b.first) (array_fills n.value u.value.ty y (ys ++ rest) rest (filled tests.limit whole u.value.shape) (i.0 ∙ ap int long) (a.fills whole ys rest j)));
         present = λ rs rest g.
             subst (λ U. followed array_as (place_by (rs ++ rest)) (type_by u.value.shape) ≡ Some (record { made = type_with U av; left = rest })) (bounded_ok span (array_of n.value u.value.ty) b.value b.first)

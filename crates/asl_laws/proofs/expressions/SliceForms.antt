@@ -91,15 +91,15 @@ either : (a b : Bool) → (a || b) ≡ true → (a ≡ true) ⊎ (b ≡ true)
 either true b h = inl refl
 either false b h = inr h
 
-module _ (tests : Tests) (right : IsRight tests) (base : List Entry) (gv : Assignment) (subs : List Signature) (loose : Bool) (H : Here) where
+module _ (tests : Tests) (right : IsRight tests) (base : List Entry) (subs : List Signature) (loose : Bool) (H : Here) where
   abbrev av : Assignment
   av = H.present
 
   abbrev Asks : List Expr → List Tree → List Asked → Type 0
-  Asks es ts qs = AllAsked tests right base gv subs loose H.scope es ts qs
+  Asks es ts qs = AllAsked tests right base subs loose H.scope es ts qs
 
   abbrev Give : List Asked → List Value → Type 0
-  Give qs xs = AllGive tests right base gv subs loose H qs xs
+  Give qs xs = AllGive tests right base subs loose H qs xs
 
   abbrev opened : SliceLayer → ex.Slice-F FoundBitfield FoundPart Found FoundField FoundPattern FoundSlice FoundType
   opened = map-Slice Bitfield ConstraintPart Expr FieldValue Pattern Slice TypeExpr FoundBitfield FoundPart Found FoundField FoundPattern FoundSlice FoundType
@@ -305,10 +305,10 @@ module _ (tests : Tests) (right : IsRight tests) (base : List Entry) (gv : Assig
       subst (λ w. AllSay (s ∷ ss) w y z) are
       (record {
         asked = p.asked ++ q.asked;
-        asks = subst (λ ts. Asks ((slice_parts s).exprs ++ exprs_in slice_parts ss) ts (p.asked ++ q.asked)) (sym (trees_both m.value n.value)) (asks_both tests right base gv subs loose H (slice_parts s).exprs (exprs_in slice_parts ss) (trees_in m.value) (trees_in n.value) p.asked q.asked p.asks q.asks);
+        asks = subst (λ ts. Asks ((slice_parts s).exprs ++ exprs_in slice_parts ss) ts (p.asked ++ q.asked)) (sym (trees_both m.value n.value)) (asks_both tests right base subs loose H (slice_parts s).exprs (exprs_in slice_parts ss) (trees_in m.value) (trees_in n.value) p.asked q.asked p.asks q.asks);
         shapes_are = ap (λ w. w ∷ shapes_in slice_parts ss) p.shape_is ∙ ap (λ ws. shape ∷ ws) q.shapes_are;
         cuts = λ xs g.
-            let d = split tests right base gv subs loose H p.asked q.asked xs g in
+            let d = split tests right base subs loose H p.asked q.asked xs g in
             let c = p.cuts d.first d.second d.own in
             let r = q.cuts d.second d.others in
             record {
@@ -327,8 +327,8 @@ pub sums_to : (a : Assignment) (span : Span) (z : Total) (w : Polynomial) (n : �
 sums_to a span z w n h i e =
     width_at_is a w n i (subst (HasWidth w a) (sym (from_nothing n)) (subst (λ p. HasWidth p a (pos 0 +ℤ n)) (sum_of_total span z w h) e))
 
-module _ (tests : Tests) (right : IsRight tests) (ds : List Decl) (base : List Entry) (gv : Assignment) (subs : List Signature) (loose : Bool) (funcs : List TreeFunc) (w : WellNamed base) where
-  pub slices_formed : (H : Here) (S : Typed) (span : Span) (e : Expr) (ss : List Slice) (c : Core) → slices_rule span (found tests e) (map (found_slice tests) ss) H.scope ≡ Ok S → At tests base gv subs loose H c → Formed tests right ds base gv subs loose funcs w H S (ex.Slices span e ss) c
+module _ (tests : Tests) (right : IsRight tests) (ds : List Decl) (base : List Entry) (subs : List Signature) (loose : Bool) (funcs : List TreeFunc) (w : WellNamed base) where
+  pub slices_formed : (H : Here) (S : Typed) (span : Span) (e : Expr) (ss : List Slice) (c : Core) → slices_rule span (found tests e) (map (found_slice tests) ss) H.scope ≡ Ok S → At tests base subs loose H c → Formed tests right ds base subs loose funcs w H S (ex.Slices span e ss) c
   slices_formed H S span e ss c h a =
       let t = bind_ok (typed tests e H.scope) _ S h in
       let fs = map (found_slice tests) ss in
@@ -336,20 +336,20 @@ module _ (tests : Tests) (right : IsRight tests) (ds : List Decl) (base : List E
       let g = then_ok (sliceable span t.value.ty o.value) _ S o.then in
       let v = bind_ok (sliced_width span fs H.scope) _ S g.then in
       let z = bind_ok (all_add fs no_width H.scope) _ v.value v.first in
-      let held = counts_held H.present base gv H.scope.names c a.agrees in
+      let held = counts_held H.present base H.scope.names c a.agrees in
       let fits = fits_of span z.value v.value z.then in
       let k = both (is_bits t.value.ty || is_integer t.value.ty) (all_integers o.value) (need_ok ((is_bits t.value.ty || is_integer t.value.ty) && all_integers o.value) T08 span tt g.first) in
       let b = either (is_bits t.value.ty) (is_integer t.value.ty) k.0 in
-      let s = all_say tests right base gv subs loose H held ss o.value no_width z.value o.first k.1 z.first in
+      let s = all_say tests right base subs loose H held ss o.value no_width z.value o.first k.1 z.first in
       let shapes = shapes_of fs in
       let U : Ty = bits_of v.value [] in
       let ks = t.value.effect ∷ effects_of o.value in
       let make : Note → Tree = λ j. tree.Slices j t.value.tree shapes (trees_of o.value) in
       let f : Value → List Value → PureOf Value = λ x zs. slices_of tests.limit span (shapes_in slice_parts ss) zs x in
       let l : Value → List Value → PureOf Value = λ x zs. slices_of tests.limit span shapes zs x in
-      formed tests right ds base gv subs loose funcs w H S (ex.Slices span e ss) c span U (greatest Pure ks) make (finish_is H.scope.class span (all_together Pure ks) (greatest Pure ks) U make S v.then) refl
-      (subst (λ ts. Same tests right base gv subs loose H (Out tests right base gv subs loose H U) (behind_more e (exprs_in slice_parts ss) c f) (behind_more t.value.tree ts (erased c) l)) (sym (list_from (trees_in o.value)))
-      (behind_more_same tests right base gv subs loose H U e t.value (exprs_in slice_parts ss) (trees_in o.value) s.asked c f l t.first s.asks a
+      formed tests right ds base subs loose funcs w H S (ex.Slices span e ss) c span U (greatest Pure ks) make (finish_is H.scope.class span (all_together Pure ks) (greatest Pure ks) U make S v.then) refl
+      (subst (λ ts. Same tests right base subs loose H (Out tests right base subs loose H U) (behind_more e (exprs_in slice_parts ss) c f) (behind_more t.value.tree ts (erased c) l)) (sym (list_from (trees_in o.value)))
+      (behind_more_same tests right base subs loose H U e t.value (exprs_in slice_parts ss) (trees_in o.value) s.asked c f l t.first s.asks a
       (λ x xs i j.
       let r = s.cuts xs j in
       let same : f x xs ≡ l x xs = ap (λ u. slices_of tests.limit span u xs x) s.shapes_are in

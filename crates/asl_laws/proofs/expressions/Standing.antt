@@ -47,19 +47,19 @@ second_below Writes Pure = refl
 second_below Writes Readonly = refl
 second_below Writes Writes = refl
 
-module _ (tests : Tests) (base : List Entry) (gv : Assignment) (subs : List Signature) (loose : Bool) where
-  over_lesser : (k l : Effect) (fs : List Frame) (ids : List ℕ) → at_most k l ≡ true → StandsOver tests base gv subs loose l fs ids → StandsOver tests base gv subs loose k fs ids
+module _ (tests : Tests) (base : List Entry) (subs : List Signature) (loose : Bool) where
+  over_lesser : (k l : Effect) (fs : List Frame) (ids : List ℕ) → at_most k l ≡ true → StandsOver tests base subs loose l fs ids → StandsOver tests base subs loose k fs ids
   over_lesser k l [] ids h s = s
   over_lesser k l (f ∷ fs) [] h s = s
   over_lesser k l (f ∷ fs) (id ∷ ids) h s = ((s.0.0, s.0.1, below_both k l s.0.0.class h s.0.2), s.1)
 
-  pub stands_lesser : (k l : Effect) (r : Around) → at_most k l ≡ true → Stands tests base gv subs loose l r → Stands tests base gv subs loose k r
+  pub stands_lesser : (k l : Effect) (r : Around) → at_most k l ≡ true → Stands tests base subs loose l r → Stands tests base subs loose k r
   stands_lesser k l r h (inl e) = inl e
   stands_lesser k l r h (inr s) = inr (over_lesser k l r.callers r.live h s)
 
   -- what comes out in a lesser class comes out in this one too
   pub thrown_lesser : (k l : Effect) (names : List Entry) (a : Assignment) (r : Around) (x : Value) (c : Core) → at_most k l ≡ true →
-      Over tests base gv subs loose k names a r x c → Over tests base gv subs loose l names a r x c
+      Over tests base subs loose k names a r x c → Over tests base subs loose l names a r x c
   thrown_lesser k l names a r x c h o = record {
     raised = o.raised;
     writes = below_both Writes k l o.writes h;

@@ -157,7 +157,7 @@ module _ (tests : Tests) where
   pub divisor_typed : (f : Expr) (k : ℕ) (w : IsWritten f k) (G : Scope) → typed tests f G ≡ Ok (divisor_as w.span k)
   divisor_typed f k w G = ap (λ e. typed tests e G) w.is ∙ ap (λ (x : Found). x.typed G) (found_roll tests (ex.Int w.span k))
 
-module _ (tests : Tests) (right : IsRight tests) (ds : List Decl) (base : List Entry) (gv : Assignment) (subs : List Signature) (loose : Bool) (funcs : List TreeFunc) (w : WellNamed base) where
+module _ (tests : Tests) (right : IsRight tests) (ds : List Decl) (base : List Entry) (subs : List Signature) (loose : Bool) (funcs : List TreeFunc) (w : WellNamed base) where
   pub int_at : (av : Assignment) (s : Storage) (o : Option Value) → Finds av (types_in base) s o → is_integer s.ty ≡ true → IntAt av s o
   int_at av s None f i = absurd f
   int_at av s (Some x) f i =
@@ -166,23 +166,23 @@ module _ (tests : Tests) (right : IsRight tests) (ds : List Decl) (base : List E
 
   -- both give one value, of which P holds
   abbrev pub Out : Here → (Value → Type 0) → Value → Value → Core → Type 0
-  Out H P x y c = (x ≡ y) × (P x × At tests base gv subs loose H c)
+  Out H P x y c = (x ≡ y) × (P x × At tests base subs loose H c)
 
   abbrev Both : (H : Here) (P : Value → Type 0) → Does Value → Runs Value → Type 0
-  Both H P p q = Same tests right base gv subs loose H (Out H P) p q
+  Both H P p q = Same tests right base subs loose H (Out H P) p q
 
   made_same : (b : Bool) (H : Here) (P : Value → Type 0) (x : Value) (code : DynCode) (span : Span) (c : Core) → (b ≡ true → P x) →
-      At tests base gv subs loose H c →
+      At tests base subs loose H c →
       Both H P (at_once (cond b (Good x) (Bad (Faulted code span))) c) (at_once (cond b (Good x) (Bad (Faulted code span))) (erased c))
   made_same true H P x code span c p a = (refl, (refl, (p refl, a)))
   made_same false H P x code span c p a = (refl, refl, a.agrees.globals)
 
-  integer_same : (H : Here) (P : Value → Type 0) (y : ℤ) (span : Span) (c : Core) → P (int y) → At tests base gv subs loose H c →
+  integer_same : (H : Here) (P : Value → Type 0) (y : ℤ) (span : Span) (c : Core) → P (int y) → At tests base subs loose H c →
       Both H P (at_once (integer_value span y) c) (at_once (integer_value span y) (erased c))
   integer_same H P y span c p a = made_same (in_range y) H P (int y) D01 span c (λ _. p) a
 
   quotient_same : (H : Here) (P : Value → Type 0) (y : ℤ) (k : ℕ) (span : Span) (c : Core) → (floor_mod y k ≡ 0 → P (int (floor_div y k))) →
-      At tests base gv subs loose H c →
+      At tests base subs loose H c →
       Both H P (at_once (quotient span y k) c) (at_once (quotient span y k) (erased c))
   quotient_same H P y k span c p a =
       made_same (floor_mod y k == 0) H P (int (floor_div y k)) D03 span c (λ e. p (is_zero_nat (floor_mod y k) e)) a
@@ -190,7 +190,7 @@ module _ (tests : Tests) (right : IsRight tests) (ds : List Decl) (base : List E
   name_same : (H : Here) (P : Value → Type 0) (span : Span) (name : List ℕ) (s : Storage) (c : Core) →
       standing_of name H.scope.names ≡ Some (Stored s) → is_integer s.ty ≡ true →
       ((y : ℤ) → ((v : ℤ) → known_value s ≡ Some (int v) → y ≡ v) → CountsAs H.present s.counted (int y) → P (int y)) →
-      At tests base gv subs loose H c →
+      At tests base subs loose H c →
       Both H P (at_once (known span (or_value (value_of name c.frame)
       (or_value (value_of name c.globals) (label_in (standing_of name base))))) c)
       (at_once (known span (value_at (slot_of name (layout_of H.scope.names)) (erased c))) (erased c))
@@ -199,17 +199,17 @@ module _ (tests : Tests) (right : IsRight tests) (ds : List Decl) (base : List E
       let v = value_of name c.globals in
       let l = label_in (standing_of name base) in
       let slot = slot_of name (layout_of H.scope.names) in
-      let f = int_at H.present s (or_value u v) (finds H.present base gv H.scope.names c name s a.agrees q) i in
+      let f = int_at H.present s (or_value u v) (finds H.present base H.scope.names c name s a.agrees q) i in
       let e : or_value u (or_value v l) ≡ Some (int f.one) = or_further (int f.one) u v l f.is in
-      let r : value_at slot (erased c) ≡ Some (int f.one) = slot_is (int f.one) name H.scope.names c (has_names H.present base gv H.scope.names c w.outside a.agrees) f.is in
+      let r : value_at slot (erased c) ≡ Some (int f.one) = slot_is (int f.one) name H.scope.names c (has_names H.present base H.scope.names c w.outside a.agrees) f.is in
       subst (λ o. Both H P (at_once (known span o) c) (at_once (known span (value_at slot (erased c))) (erased c))) (sym e)
       (subst (λ o. Both H P (at_once (known span (Some (int f.one))) c) (at_once (known span o) (erased c))) (sym r)
       (refl, (refl, (k f.one f.known f.counts, a))))
 
   -- an operand of a width, and what follows it
   asked_same : (H : Here) (P : Value → Type 0) (q : Asked) (e : Expr) (c : Core) (k : Value → Core → Does Value)
-      (l : Value → BareCore → Runs Value) → Answers tests q e H.scope → At tests base gv subs loose H c →
-      ((x : Value) (c1 : Core) → GivesAsked (types_in base) H.present q x → At tests base gv subs loose H c1 → Both H P (k x c1)
+      (l : Value → BareCore → Runs Value) → Answers tests q e H.scope → At tests base subs loose H c →
+      ((x : Value) (c1 : Core) → GivesAsked (types_in base) H.present q x → At tests base subs loose H c1 → Both H P (k x c1)
       (l x (erased c1))) → Both H P (Eval e c k) (Eval (tree_asked q) (erased c) l)
   asked_same H P q e c k l h a next =
       (one (H, q), record { answers = h; is_tree = refl; at = a }, refl, λ x c1 v. next x c1 v.0 v.1, λ x c1 v. v)
@@ -217,13 +217,13 @@ module _ (tests : Tests) (right : IsRight tests) (ds : List Decl) (base : List E
   -- what is asked of a node, as an integer
   pub record Widened (H : Here) (q : Asked) (layer : ExprLayer) (c : Core) : Type 0 where
     pub at : span_of layer ≡ tree_at (tree_asked q)
-    pub does : Same tests right base gv subs loose H (λ x y c1. (x ≡ y) × (GivesAsked (types_in base) H.present q x × At tests base gv subs loose H c1)) (expr_node (env tests right ds base gv subs loose funcs w) layer c) (tree_node (program tests right ds base gv subs loose funcs w) (tree_asked q) (erased c))
+    pub does : Same tests right base subs loose H (λ x y c1. (x ≡ y) × (GivesAsked (types_in base) H.present q x × At tests base subs loose H c1)) (expr_node (env tests right ds base subs loose funcs w) layer c) (tree_node (program tests right ds base subs loose funcs w) (tree_asked q) (erased c))
 
   -- ---- operations
 
   -- an operand that is negated
   negated_same : (H : Here) (P : Value → Type 0) (span : Span) (e : Expr) (q : Asked) (y : ℤ) (c : Core) → Answers tests q e H.scope →
-      ((x : Value) → GivesAsked (types_in base) H.present q x → (x ≡ int y) × P (int (pos 0 -ℤ y))) → At tests base gv subs loose H c →
+      ((x : Value) → GivesAsked (types_in base) H.present q x → (x ≡ int y) × P (int (pos 0 -ℤ y))) → At tests base subs loose H c →
       Both H P (behind e c (unary_value span unary.Negate)) (behind (tree_asked q) (erased c) (unary_value span unary.Negate))
   negated_same H P span e q y c h k a =
       asked_same H P q e c (λ x c1. at_once (unary_value span unary.Negate x) c1) (λ x c1. at_once (unary_value span unary.Negate x) c1) h a
@@ -236,7 +236,7 @@ module _ (tests : Tests) (right : IsRight tests) (ds : List Decl) (base : List E
       ((x : Value) → GivesAsked (types_in base) H.present p x → x ≡ int y) →
       ((x : Value) → GivesAsked (types_in base) H.present q x → x ≡ int v) →
       ((x u : Value) → GivesAsked (types_in base) H.present p x → GivesAsked (types_in base) H.present q u → P (int (number_by o y v))) →
-      At tests base gv subs loose H c →
+      At tests base subs loose H c →
       Both H P (Eval e c (λ x c1. behind f c1 (binary_value tests.limit span (operator o) x)))
       (Eval (tree_asked p) (erased c) (λ x c1. behind (tree_asked q) c1 (binary_value tests.limit span (operator o) x)))
   combined_same H P span o e f p q y v c h k i j g a =
@@ -251,15 +251,15 @@ module _ (tests : Tests) (right : IsRight tests) (ds : List Decl) (base : List E
 
   -- the literal of a divisor, and what follows it
   abbrev IsDivisor : (H : Here) (P : Value → Type 0) (f : Expr) (t : Tree) (k : ℕ) → Type 1
-  IsDivisor H P f t k = (c : Core) (g : Value → Core → Does Value) (l : Value → BareCore → Runs Value) → At tests base gv subs loose H c →
-      ((x : Value) (c1 : Core) → x ≡ int (pos k) → At tests base gv subs loose H c1 → Both H P (g x c1) (l x (erased c1))) → Both H P
+  IsDivisor H P f t k = (c : Core) (g : Value → Core → Does Value) (l : Value → BareCore → Runs Value) → At tests base subs loose H c →
+      ((x : Value) (c1 : Core) → x ≡ int (pos k) → At tests base subs loose H c1 → Both H P (g x c1) (l x (erased c1))) → Both H P
       (Eval f c g) (Eval t (erased c) l)
 
   -- `DIV`
   divided_same : (H : Here) (P : Value → Type 0) (span : Span) (e f : Expr) (p : Asked) (t : Tree) (y : ℤ) (k : ℕ) (c : Core) →
       Answers tests p e H.scope → IsDivisor H P f t k → 0 < k →
       ((x : Value) → GivesAsked (types_in base) H.present p x → (x ≡ int y) × (floor_mod y k ≡ 0 → P (int (floor_div y k)))) →
-      At tests base gv subs loose H c →
+      At tests base subs loose H c →
       Both H P (Eval e c (λ x c1. behind f c1 (binary_value tests.limit span binary.DivideExact x)))
       (Eval (tree_asked p) (erased c) (λ x c1. behind t c1 (binary_value tests.limit span binary.DivideExact x)))
   divided_same H P span e f p t y k c h d l i a =
@@ -279,7 +279,7 @@ module _ (tests : Tests) (right : IsRight tests) (ds : List Decl) (base : List E
   typed_divisor : (H : Here) (P : Value → Type 0) (f : Expr) (Q : Typed) (k : ℕ) → typed tests f H.scope ≡ Ok Q →
       (found tests f).divisor ≡ Some k → IsDivisor H P f Q.tree k
   typed_divisor H P f Q k q h c g l a n =
-      operand_also tests right base gv subs loose H (Out H P) f Q (of_divisor (found tests f).span k) c g l q (h, refl) a
+      operand_also tests right base subs loose H (Out H P) f Q (of_divisor (found tests f).span k) c g l q (h, refl) a
       (λ x c1 i m a1. n x c1 m a1)
 
   -- ---- widths
@@ -287,7 +287,7 @@ module _ (tests : Tests) (right : IsRight tests) (ds : List Decl) (base : List E
   combined_widths : (H : Here) (span : Span) (o : Combination) (e f : Expr) (p q : Asked) (v w r : Polynomial) (c : Core) →
       width_combined span o v w ≡ Ok r → Answers tests p e H.scope → Answers tests q f H.scope →
       ((x : Value) → GivesAsked (types_in base) H.present p x → IsWidth H.present v x) →
-      ((x : Value) → GivesAsked (types_in base) H.present q x → IsWidth H.present w x) → At tests base gv subs loose H c →
+      ((x : Value) → GivesAsked (types_in base) H.present q x → IsWidth H.present w x) → At tests base subs loose H c →
       Both H (IsWidth H.present r) (Eval e c (λ x c1. behind f c1 (binary_value tests.limit span (operator o) x)))
       (Eval (tree_asked p) (erased c) (λ x c1. behind (tree_asked q) c1 (binary_value tests.limit span (operator o) x)))
   combined_widths H span o e f p q v w r c g h k i j a =
@@ -302,7 +302,7 @@ module _ (tests : Tests) (right : IsRight tests) (ds : List Decl) (base : List E
 
   divided_widths : (H : Here) (span : Span) (e f : Expr) (p : Asked) (t : Tree) (v r : Polynomial) (k : ℕ) (c : Core) →
       width_divided span v k ≡ Ok r → 0 < k → Answers tests p e H.scope → IsDivisor H (IsWidth H.present r) f t k →
-      ((x : Value) → GivesAsked (types_in base) H.present p x → IsWidth H.present v x) → At tests base gv subs loose H c →
+      ((x : Value) → GivesAsked (types_in base) H.present p x → IsWidth H.present v x) → At tests base subs loose H c →
       Both H (IsWidth H.present r) (Eval e c (λ x c1. behind f c1 (binary_value tests.limit span binary.DivideExact x)))
       (Eval (tree_asked p) (erased c) (λ x c1. behind t c1 (binary_value tests.limit span binary.DivideExact x)))
   divided_widths H span e f p t v r k c g l h d i a =
@@ -314,7 +314,7 @@ module _ (tests : Tests) (right : IsRight tests) (ds : List Decl) (base : List E
 
   negated_widths : (H : Here) (span : Span) (e : Expr) (p : Asked) (v r : Polynomial) (c : Core) →
       width_difference span (constant_map (pos 0)) v ≡ Ok r → Answers tests p e H.scope →
-      ((x : Value) → GivesAsked (types_in base) H.present p x → IsWidth H.present v x) → At tests base gv subs loose H c →
+      ((x : Value) → GivesAsked (types_in base) H.present p x → IsWidth H.present v x) → At tests base subs loose H c →
       Both H (IsWidth H.present r) (behind e c (unary_value span unary.Negate))
       (behind (tree_asked p) (erased c) (unary_value span unary.Negate))
   negated_widths H span e p v r c g h i a =
@@ -326,24 +326,24 @@ module _ (tests : Tests) (right : IsRight tests) (ds : List Decl) (base : List E
 
   width_made : (H : Here) (W : Width) (layer : ExprLayer) (c : Core) (p : Polynomial) (t : Tree) → width_as p t ≡ W →
       span_of layer ≡ tree_at t →
-      Both H (IsWidth H.present p) (expr_node (env tests right ds base gv subs loose funcs w) layer c)
-      (tree_node (program tests right ds base gv subs loose funcs w) t (erased c)) → Widened H (of_width W) layer c
+      Both H (IsWidth H.present p) (expr_node (env tests right ds base subs loose funcs w) layer c)
+      (tree_node (program tests right ds base subs loose funcs w) t (erased c)) → Widened H (of_width W) layer c
   width_made H W layer c p t e at d = subst (λ (z : Width). Widened H (of_width z) layer c) e (record { at = at; does = d })
 
   width_literal : (H : Here) (span : Span) (n : ℕ) (p : Polynomial) (c : Core) → width_of_number span (pos n) ≡ Ok p →
-      At tests base gv subs loose H c →
+      At tests base subs loose H c →
       Both H (IsWidth H.present p) (at_once (integer_value span (pos n)) c) (at_once (integer_value span (pos n)) (erased c))
   width_literal H span n p c h a =
       integer_same H (IsWidth H.present p) (pos n) span c
       (width_value H.present p (pos n) (number_held span (pos n) p h) (number_width H.present span (pos n) p h)) a
 
-  width_int : (H : Here) (W : Width) (span : Span) (n : ℕ) (c : Core) → (width_of_number span (pos n) >>= λ p. Ok (width_as p (tree.Int (width_note span) n))) ≡ Ok W → At tests base gv subs loose H c → Widened H (of_width W) (ex.Int span n) c
+  width_int : (H : Here) (W : Width) (span : Span) (n : ℕ) (c : Core) → (width_of_number span (pos n) >>= λ p. Ok (width_as p (tree.Int (width_note span) n))) ≡ Ok W → At tests base subs loose H c → Widened H (of_width W) (ex.Int span n) c
   width_int H W span n c h a =
       let u = bind_ok (width_of_number span (pos n)) _ W h in
       width_made H W (ex.Int span n) c u.value (tree.Int (width_note span) n)
       (ok_ok (width_as u.value (tree.Int (width_note span) n)) W u.then) refl (width_literal H span n u.value c u.first a)
 
-  width_by : (H : Here) (span : Span) (name : List ℕ) (o : Option Standing) (p : Polynomial) (c : Core) → standing_of name H.scope.names ≡ o → width_of_standing span o ≡ Ok p → At tests base gv subs loose H c →
+  width_by : (H : Here) (span : Span) (name : List ℕ) (o : Option Standing) (p : Polynomial) (c : Core) → standing_of name H.scope.names ≡ o → width_of_standing span o ≡ Ok p → At tests base subs loose H c →
       Both H (IsWidth H.present p) (at_once (known span
       (or_value (value_of name c.frame) (or_value (value_of name c.globals) (label_in (standing_of name base))))) c)
       (at_once (known span (value_at (slot_of name (layout_of H.scope.names)) (erased c))) (erased c))
@@ -356,7 +356,7 @@ module _ (tests : Tests) (right : IsRight tests) (ds : List Decl) (base : List E
   width_by H span name (Some (TypeName T)) p c q h a = err_ok (fault_of T02 span) p h
   width_by H span name None p c q h a = err_ok (fault_of T02 span) p h
 
-  width_name : (H : Here) (W : Width) (span : Span) (name : List ℕ) (c : Core) → (width_of_standing span (standing_of name H.scope.names) >>= λ p. Ok (width_as p (name_read span name H.scope))) ≡ Ok W → At tests base gv subs loose H c → Widened H (of_width W) (ex.Name span name) c
+  width_name : (H : Here) (W : Width) (span : Span) (name : List ℕ) (c : Core) → (width_of_standing span (standing_of name H.scope.names) >>= λ p. Ok (width_as p (name_read span name H.scope))) ≡ Ok W → At tests base subs loose H c → Widened H (of_width W) (ex.Name span name) c
   width_name H W span name c h a =
       let u = bind_ok (width_of_standing span (standing_of name H.scope.names)) _ W h in
       width_made H W (ex.Name span name) c u.value (name_read span name H.scope)
@@ -364,7 +364,7 @@ module _ (tests : Tests) (right : IsRight tests) (ds : List Decl) (base : List E
       (width_by H span name (standing_of name H.scope.names) u.value c refl u.first a)
 
   width_one : (H : Here) (W : Width) (span : Span) (o : UnaryOperator) (e : Expr) (c : Core) →
-      rules.width_of span (reading_of_one o (found tests e)) H.scope ≡ Ok W → At tests base gv subs loose H c →
+      rules.width_of span (reading_of_one o (found tests e)) H.scope ≡ Ok W → At tests base subs loose H c →
       Widened H (of_width W) (ex.Unary span o e) c
   width_one H W span unary.Negate e c h a =
       let t = bind_ok (width tests e H.scope) _ W h in
@@ -434,22 +434,22 @@ module _ (tests : Tests) (right : IsRight tests) (ds : List Decl) (base : List E
   combined_node : (H : Here) (P : Value → Type 0) (span : Span) (o : Combination) (e f : Expr) (T : Ty) (k : Effect) (t u : Tree) (c : Core) →
       Both H P (Eval e c (λ x c1. behind f c1 (binary_value tests.limit span (operator o) x)))
       (Eval t (erased c) (λ x c1. behind u c1 (binary_value tests.limit span (operator o) x))) →
-      Both H P (expr_node (env tests right ds base gv subs loose funcs w) (ex.Binary span (operator o) e f) c)
-      (tree_node (program tests right ds base gv subs loose funcs w)
+      Both H P (expr_node (env tests right ds base subs loose funcs w) (ex.Binary span (operator o) e f) c)
+      (tree_node (program tests right ds base subs loose funcs w)
       (tree.Binary (record { span = span; ty = T; effect = k }) (operator o) t u) (erased c))
   combined_node H P span Sum e f T k t u c d = d
   combined_node H P span Difference e f T k t u c d = d
   combined_node H P span Product e f T k t u c d = d
 
   width_combined_node : (H : Here) (W : Width) (span : Span) (o : Combination) (e f : Expr) (c : Core) → Combined H span o e f W →
-      At tests base gv subs loose H c → Widened H (of_width W) (ex.Binary span (operator o) e f) c
+      At tests base subs loose H c → Widened H (of_width W) (ex.Binary span (operator o) e f) c
   width_combined_node H W span o e f c m a =
       width_made H W (ex.Binary span (operator o) e f) c m.poly (combined_tree span o m.left.tree m.right_one.tree) m.is refl
       (combined_node H (IsWidth H.present m.poly) span o e f (width_note span).ty (width_note span).effect m.left.tree m.right_one.tree c
       (combined_widths H span o e f (of_width m.left) (of_width m.right_one)
       m.left.poly m.right_one.poly m.poly c m.is_poly m.is_left m.is_right (λ x g. g) (λ x g. g) a))
 
-  width_quotient : (H : Here) (W : Width) (span : Span) (e f : Expr) (c : Core) → Divided H span e f W → At tests base gv subs loose H c →
+  width_quotient : (H : Here) (W : Width) (span : Span) (e f : Expr) (c : Core) → Divided H span e f W → At tests base subs loose H c →
       Widened H (of_width W) (ex.Binary span binary.DivideExact e f) c
   width_quotient H W span e f c m a =
       let t = tree.Int (width_note (found tests f).span) m.by in
@@ -458,7 +458,7 @@ module _ (tests : Tests) (right : IsRight tests) (ds : List Decl) (base : List E
       (literal_divisor H (IsWidth H.present m.poly) f m.by m.is_by) (λ x g. g) a)
 
   width_two : (H : Here) (W : Width) (span : Span) (o : BinaryOperator) (e f : Expr) (c : Core) →
-      rules.width_of span (reading_of_two (joining o) (found tests e) (found tests f)) H.scope ≡ Ok W → At tests base gv subs loose H c →
+      rules.width_of span (reading_of_two (joining o) (found tests e) (found tests f)) H.scope ≡ Ok W → At tests base subs loose H c →
       Widened H (of_width W) (ex.Binary span o e f) c
   width_two H W span binary.Add e f c h a = width_combined_node H W span Sum e f c (combined_of H W span Sum e f h) a
   width_two H W span binary.Subtract e f c h a = width_combined_node H W span Difference e f c (combined_of H W span Difference e f h) a
@@ -467,7 +467,7 @@ module _ (tests : Tests) (right : IsRight tests) (ds : List Decl) (base : List E
   -- no other operator has a place in a width
   width_two H W span o e f c h a = err_ok (fault_of T19 span) W h
 
-  width_layer : (H : Here) (W : Width) (layer : ExprLayer) (c : Core) → width_rule (opened tests layer) H.scope ≡ Ok W → At tests base gv subs loose H c → Widened H (of_width W) layer c
+  width_layer : (H : Here) (W : Width) (layer : ExprLayer) (c : Core) → width_rule (opened tests layer) H.scope ≡ Ok W → At tests base subs loose H c → Widened H (of_width W) layer c
   width_layer H W (ex.Int span n) c h a = width_int H W span n c h a
   width_layer H W (ex.Name span name) c h a = width_name H W span name c h a
   width_layer H W (ex.Unary span o e) c h a = width_one H W span o e c h a
@@ -481,12 +481,12 @@ module _ (tests : Tests) (right : IsRight tests) (ds : List Decl) (base : List E
   Is z x = x ≡ int z
 
   number_made : (H : Here) (N : Number) (layer : ExprLayer) (c : Core) (z : ℤ) (t : Tree) → number_as z t ≡ N → span_of layer ≡ tree_at t →
-      Both H (Is z) (expr_node (env tests right ds base gv subs loose funcs w) layer c)
-      (tree_node (program tests right ds base gv subs loose funcs w) t (erased c)) → Widened H (of_number N) layer c
+      Both H (Is z) (expr_node (env tests right ds base subs loose funcs w) layer c)
+      (tree_node (program tests right ds base subs loose funcs w) t (erased c)) → Widened H (of_number N) layer c
   number_made H N layer c z t e at d = subst (λ (n : Number). Widened H (of_number n) layer c) e (record { at = at; does = d })
 
   number_name_by : (H : Here) (span : Span) (name : List ℕ) (o : Option Standing) (z : ℤ) (c : Core) → standing_of name H.scope.names ≡ o →
-      number_of_standing span o ≡ Ok z → At tests base gv subs loose H c →
+      number_of_standing span o ≡ Ok z → At tests base subs loose H c →
       Both H (Is z) (at_once (known span (or_value (value_of name c.frame)
       (or_value (value_of name c.globals) (label_in (standing_of name base))))) c)
       (at_once (known span (value_at (slot_of name (layout_of H.scope.names)) (erased c))) (erased c))
@@ -500,7 +500,7 @@ module _ (tests : Tests) (right : IsRight tests) (ds : List Decl) (base : List E
   number_name_by H span name None z c q h a = err_ok (fault_of T02 span) z h
 
   number_one : (H : Here) (N : Number) (span : Span) (o : UnaryOperator) (e : Expr) (c : Core) →
-      rules.number_of span (reading_of_one o (found tests e)) H.scope ≡ Ok N → At tests base gv subs loose H c →
+      rules.number_of span (reading_of_one o (found tests e)) H.scope ≡ Ok N → At tests base subs loose H c →
       Widened H (of_number N) (ex.Unary span o e) c
   number_one H N span unary.Negate e c h a =
       let t = bind_ok ((found tests e).number H.scope) _ N h in
@@ -539,7 +539,7 @@ module _ (tests : Tests) (right : IsRight tests) (ds : List Decl) (base : List E
       }
 
   combined_numbers : (H : Here) (span : Span) (o : Combination) (e f : Expr) (N : Number) (m : CombinedNumbers H span o e f N) (c : Core) →
-      At tests base gv subs loose H c →
+      At tests base subs loose H c →
       Both H (Is m.number) (Eval e c (λ x c1. behind f c1 (binary_value tests.limit span (operator o) x)))
       (Eval m.left.tree (erased c) (λ x c1. behind m.right_one.tree c1 (binary_value tests.limit span (operator o) x)))
   combined_numbers H span o e f N m c a =
@@ -547,7 +547,7 @@ module _ (tests : Tests) (right : IsRight tests) (ds : List Decl) (base : List E
       m.left.number m.right_one.number c m.is_left m.is_right (λ x g. g) (λ x g. g) (λ x u g k. ap int m.is_number) a
 
   number_quotient : (H : Here) (N : Number) (span : Span) (e f : Expr) (c : Core) →
-      rules.number_of span (divided (found tests e) (found tests f)) H.scope ≡ Ok N → At tests base gv subs loose H c →
+      rules.number_of span (divided (found tests e) (found tests f)) H.scope ≡ Ok N → At tests base subs loose H c →
       Widened H (of_number N) (ex.Binary span binary.DivideExact e f) c
   number_quotient H N span e f c h a =
       let t = bind_ok ((found tests e).number H.scope) _ N h in
@@ -561,13 +561,13 @@ module _ (tests : Tests) (right : IsRight tests) (ds : List Decl) (base : List E
       (λ x g. (g, λ n. ap int (quotient_is span t.value.number v.value k.value v.first))) a)
 
   number_combined_node : (H : Here) (N : Number) (span : Span) (o : Combination) (e f : Expr) (c : Core) → CombinedNumbers H span o e f N →
-      At tests base gv subs loose H c → Widened H (of_number N) (ex.Binary span (operator o) e f) c
+      At tests base subs loose H c → Widened H (of_number N) (ex.Binary span (operator o) e f) c
   number_combined_node H N span o e f c m a =
       number_made H N (ex.Binary span (operator o) e f) c m.number (combined_tree span o m.left.tree m.right_one.tree) m.is refl
       (combined_node H (Is m.number) span o e f (width_note span).ty (width_note span).effect m.left.tree m.right_one.tree c (combined_numbers H span o e f N m c a))
 
   number_two : (H : Here) (N : Number) (span : Span) (o : BinaryOperator) (e f : Expr) (c : Core) →
-      rules.number_of span (reading_of_two (joining o) (found tests e) (found tests f)) H.scope ≡ Ok N → At tests base gv subs loose H c →
+      rules.number_of span (reading_of_two (joining o) (found tests e) (found tests f)) H.scope ≡ Ok N → At tests base subs loose H c →
       Widened H (of_number N) (ex.Binary span o e f) c
   number_two H N span binary.Add e f c h a = number_combined_node H N span Sum e f c (numbers_of H N span Sum e f h) a
   number_two H N span binary.Subtract e f c h a = number_combined_node H N span Difference e f c (numbers_of H N span Difference e f h) a
@@ -576,7 +576,7 @@ module _ (tests : Tests) (right : IsRight tests) (ds : List Decl) (base : List E
   -- no other operator has a place in a number
   number_two H N span o e f c h a = err_ok (fault_of T19 span) N h
 
-  number_layer : (H : Here) (N : Number) (layer : ExprLayer) (c : Core) → number_rule (opened tests layer) H.scope ≡ Ok N → At tests base gv subs loose H c → Widened H (of_number N) layer c
+  number_layer : (H : Here) (N : Number) (layer : ExprLayer) (c : Core) → number_rule (opened tests layer) H.scope ≡ Ok N → At tests base subs loose H c → Widened H (of_number N) layer c
   number_layer H N (ex.Int span n) c h a =
       number_made H N (ex.Int span n) c (pos n) (tree.Int (width_note span) n)
       (ok_ok (number_as (pos n) (tree.Int (width_note span) n)) N (then_ok (need (fits (pos n)) T20 span) _ N h).then) refl
@@ -592,15 +592,15 @@ module _ (tests : Tests) (right : IsRight tests) (ds : List Decl) (base : List E
   number_layer H N layer c h a = err_ok (fault_of T19 _) N h
 
   -- what is asked of an expression as a width or a number
-  pub width_formed : (H : Here) (W : Width) (e : Expr) (c : Core) → width tests e H.scope ≡ Ok W → At tests base gv subs loose H c → Widened H (of_width W) (out-Expr e) c
+  pub width_formed : (H : Here) (W : Width) (e : Expr) (c : Core) → width tests e H.scope ≡ Ok W → At tests base subs loose H c → Widened H (of_width W) (out-Expr e) c
   width_formed H W e c h a = width_layer H W (out-Expr e) c (sym (ap (λ (f : Found). f.width H.scope) (unrolled tests e)) ∙ h) a
 
-  pub number_formed : (H : Here) (N : Number) (e : Expr) (c : Core) → (found tests e).number H.scope ≡ Ok N → At tests base gv subs loose H c → Widened H (of_number N) (out-Expr e) c
+  pub number_formed : (H : Here) (N : Number) (e : Expr) (c : Core) → (found tests e).number H.scope ≡ Ok N → At tests base subs loose H c → Widened H (of_number N) (out-Expr e) c
   number_formed H N e c h a = number_layer H N (out-Expr e) c (sym (ap (λ (f : Found). f.number H.scope) (unrolled tests e)) ∙ h) a
 
   -- and of a divisor
   pub divisor_formed : (H : Here) (span : Span) (k : ℕ) (e : Expr) (c : Core) → (found tests e).divisor ≡ Some k →
-      (found tests e).span ≡ span → At tests base gv subs loose H c → Widened H (of_divisor span k) (out-Expr e) c
+      (found tests e).span ≡ span → At tests base subs loose H c → Widened H (of_divisor span k) (out-Expr e) c
   divisor_formed H span k e c h s a =
       let i = is_written tests e k h in
       let at : i.span ≡ span = sym (divisor_span tests e k i) ∙ s in
@@ -611,14 +611,14 @@ module _ (tests : Tests) (right : IsRight tests) (ds : List Decl) (base : List E
 
   known_made : (H : Here) (S : Typed) (W : Width) (layer : ExprLayer) (c : Core) (span : Span) (U : Ty) (k : Effect) (make : Note → Tree)
       (p : Polynomial) (t : Tree) → typed_as span U k make ≡ S → width_as p t ≡ W → span_of layer ≡ tree_at (typed_as span U k make).tree →
-      Both H (IsWidth H.present p) (expr_node (env tests right ds base gv subs loose funcs w) layer c)
-      (tree_node (program tests right ds base gv subs loose funcs w) (typed_as span U k make).tree (erased c)) → Widened H (of_known S W)
+      Both H (IsWidth H.present p) (expr_node (env tests right ds base subs loose funcs w) layer c)
+      (tree_node (program tests right ds base subs loose funcs w) (typed_as span U k make).tree (erased c)) → Widened H (of_known S W)
       layer c
   known_made H S W layer c span U k make p t e f at d =
       subst (λ (z : Width). Widened H (of_known S z) layer c) f
       (subst (λ (z : Typed). Widened H (of_known z (width_as p t)) layer c) e (record { at = at; does = d }))
 
-  known_int : (H : Here) (S : Typed) (W : Width) (span : Span) (n : ℕ) (c : Core) → in_class H.scope.class span Pure (literal_type n) (λ m. tree.Int m n) ≡ Ok S → (width_of_number span (pos n) >>= λ p. Ok (width_as p (tree.Int (width_note span) n))) ≡ Ok W → At tests base gv subs loose H c → Widened H (of_known S W) (ex.Int span n) c
+  known_int : (H : Here) (S : Typed) (W : Width) (span : Span) (n : ℕ) (c : Core) → in_class H.scope.class span Pure (literal_type n) (λ m. tree.Int m n) ≡ Ok S → (width_of_number span (pos n) >>= λ p. Ok (width_as p (tree.Int (width_note span) n))) ≡ Ok W → At tests base subs loose H c → Widened H (of_known S W) (ex.Int span n) c
   known_int H S W span n c h k a =
       let u = bind_ok (width_of_number span (pos n)) _ W k in
       known_made H S W (ex.Int span n) c span (literal_type n) Pure (λ m. tree.Int m n) u.value (tree.Int (width_note span) n)
@@ -626,7 +626,7 @@ module _ (tests : Tests) (right : IsRight tests) (ds : List Decl) (base : List E
       (ok_ok (width_as u.value (tree.Int (width_note span) n)) W u.then) refl
       (width_literal H span n u.value c u.first a)
 
-  known_by : (H : Here) (S : Typed) (W : Width) (span : Span) (name : List ℕ) (o : Option Standing) (p : Polynomial) (c : Core) → standing_of name H.scope.names ≡ o → name_of_standing span name o H.scope ≡ Ok S → width_of_standing span o ≡ Ok p → width_as p (name_read span name H.scope) ≡ W → At tests base gv subs loose H c → Widened H (of_known S W) (ex.Name span name) c
+  known_by : (H : Here) (S : Typed) (W : Width) (span : Span) (name : List ℕ) (o : Option Standing) (p : Polynomial) (c : Core) → standing_of name H.scope.names ≡ o → name_of_standing span name o H.scope ≡ Ok S → width_of_standing span o ≡ Ok p → width_as p (name_read span name H.scope) ≡ W → At tests base subs loose H c → Widened H (of_known S W) (ex.Name span name) c
   known_by H S W span name (Some (Stored s)) p c q h k e a =
       let slot = slot_of name (layout_of H.scope.names) in
       known_made H S W (ex.Name span name) c span s.ty (reading s) (λ n. tree.Read n slot) p (name_read span name H.scope)
@@ -639,7 +639,7 @@ module _ (tests : Tests) (right : IsRight tests) (ds : List Decl) (base : List E
 
   known_one : (H : Here) (S : Typed) (W : Width) (span : Span) (o : UnaryOperator) (e : Expr) (c : Core) →
       operation_rule span o (found tests e) H.scope ≡ Ok S → rules.width_of span (reading_of_one o (found tests e)) H.scope ≡ Ok W →
-      At tests base gv subs loose H c → Widened H (of_known S W) (ex.Unary span o e) c
+      At tests base subs loose H c → Widened H (of_known S W) (ex.Unary span o e) c
   known_one H S W span unary.Negate e c h k a =
       let m = bind_ok (typed tests e H.scope) _ S h in
       let n = bind_ok (unary_rule span unary.Negate m.value.ty) _ S m.then in
@@ -683,7 +683,7 @@ module _ (tests : Tests) (right : IsRight tests) (ds : List Decl) (base : List E
       }
 
   known_quotient : (H : Here) (S : Typed) (W : Width) (span : Span) (e f : Expr) (c : Core) → BothTyped H S span binary.DivideExact e f →
-      Divided H span e f W → At tests base gv subs loose H c → Widened H (of_known S W) (ex.Binary span binary.DivideExact e f) c
+      Divided H span e f W → At tests base subs loose H c → Widened H (of_known S W) (ex.Binary span binary.DivideExact e f) c
   known_quotient H S W span e f c t m a =
       known_made H S W (ex.Binary span binary.DivideExact e f) c span t.ty t.effect
       (λ n. tree.Binary n binary.DivideExact t.left.tree t.right_one.tree) m.poly (divided_tree span m.left.tree (found tests f).span m.by)
@@ -692,7 +692,7 @@ module _ (tests : Tests) (right : IsRight tests) (ds : List Decl) (base : List E
       (t.is_left, m.is_left) (typed_divisor H (IsWidth H.present m.poly) f t.right_one m.by t.is_right m.is_by) (λ x g. g) a)
 
   known_combined : (H : Here) (S : Typed) (W : Width) (span : Span) (o : Combination) (e f : Expr) (c : Core) →
-      BothTyped H S span (operator o) e f → Combined H span o e f W → At tests base gv subs loose H c →
+      BothTyped H S span (operator o) e f → Combined H span o e f W → At tests base subs loose H c →
       Widened H (of_known S W) (ex.Binary span (operator o) e f) c
   known_combined H S W span o e f c t m a =
       known_made H S W (ex.Binary span (operator o) e f) c span t.ty t.effect
@@ -702,7 +702,7 @@ module _ (tests : Tests) (right : IsRight tests) (ds : List Decl) (base : List E
       m.left.poly m.right_one.poly m.poly c m.is_poly (t.is_left, m.is_left) (t.is_right, m.is_right) (λ x g. g) (λ x g. g) a))
 
   known_two : (H : Here) (S : Typed) (W : Width) (span : Span) (o : BinaryOperator) (e f : Expr) (c : Core) → BothTyped H S span o e f →
-      rules.width_of span (reading_of_two (joining o) (found tests e) (found tests f)) H.scope ≡ Ok W → At tests base gv subs loose H c →
+      rules.width_of span (reading_of_two (joining o) (found tests e) (found tests f)) H.scope ≡ Ok W → At tests base subs loose H c →
       Widened H (of_known S W) (ex.Binary span o e f) c
   known_two H S W span binary.Add e f c t h a = known_combined H S W span Sum e f c t (combined_of H W span Sum e f h) a
   known_two H S W span binary.Subtract e f c t h a = known_combined H S W span Difference e f c t (combined_of H W span Difference e f h) a
@@ -711,7 +711,7 @@ module _ (tests : Tests) (right : IsRight tests) (ds : List Decl) (base : List E
   -- no other operator has a place in a width
   known_two H S W span o e f c t h a = err_ok (fault_of T19 span) W h
 
-  known_layer : (H : Here) (S : Typed) (W : Width) (layer : ExprLayer) (c : Core) → typed_rule tests (opened tests layer) H.scope ≡ Ok S → width_rule (opened tests layer) H.scope ≡ Ok W → At tests base gv subs loose H c → Widened H (of_known S W) layer c
+  known_layer : (H : Here) (S : Typed) (W : Width) (layer : ExprLayer) (c : Core) → typed_rule tests (opened tests layer) H.scope ≡ Ok S → width_rule (opened tests layer) H.scope ≡ Ok W → At tests base subs loose H c → Widened H (of_known S W) layer c
   known_layer H S W (ex.Int span n) c h k a = known_int H S W span n c h k a
   known_layer H S W (ex.Name span name) c h k a =
       let u = bind_ok (width_of_standing span (standing_of name H.scope.names)) _ W k in
@@ -722,5 +722,5 @@ module _ (tests : Tests) (right : IsRight tests) (ds : List Decl) (base : List E
   known_layer H S W layer c h k a = err_ok (fault_of T19 _) W k
 
   -- what is asked of an expression of a type, whose width is known
-  pub known_formed : (H : Here) (S : Typed) (W : Width) (e : Expr) (c : Core) → typed tests e H.scope ≡ Ok S → width tests e H.scope ≡ Ok W → At tests base gv subs loose H c → Widened H (of_known S W) (out-Expr e) c
+  pub known_formed : (H : Here) (S : Typed) (W : Width) (e : Expr) (c : Core) → typed tests e H.scope ≡ Ok S → width tests e H.scope ≡ Ok W → At tests base subs loose H c → Widened H (of_known S W) (out-Expr e) c
   known_formed H S W e c h k a = known_layer H S W (out-Expr e) c (sym (ap (λ (f : Found). f.typed H.scope) (unrolled tests e)) ∙ h) (sym (ap (λ (f : Found). f.width H.scope) (unrolled tests e)) ∙ k) a

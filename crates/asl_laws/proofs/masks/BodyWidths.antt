@@ -20,9 +20,7 @@ use Rattle.asl_rules.specs.declarations.Scopes.{Body, Signature, Entry as Names}
 use Rattle.asl_rules.specs.declarations.Keys.{Key}
 use Rattle.asl_rules.specs.declarations.WrittenOut.{joined, written_out, list_written, func_written, getter_of, setter_of}
 use Rattle.asl_rules.specs.declarations.Replacing.{Header, header_of, is_impdef, is_implementation, has_word, has_header, first_with, some_with, header_matched, headers_matched, bodies_matched, without_word, without_implementations, defaults, or_itself, in_place, replaced}
-use Rattle.asl_rules.specs.declarations.Programs.{Accepted, verdict, read_verdict}
-use Rattle.asl_rules.specs.declarations.Signatures.{Head, signature_rule, signatures_rule, body_of as body_in, body_rule, bodies_rule}
-use Rattle.asl_rules.specs.declarations.Environments.{funcs_of}
+use Rattle.asl_rules.specs.declarations.Programs.{Accepted, Head, funcs_of, signature_rule, signatures_rule, body_of as body_in, body_rule, bodies_rule, verdict, read_verdict}
 use Rattle.asl_rules.specs.statements.Acting.{Listed, in_order}
 use Rattle.asl_rules.specs.statements.Stmts.{found_stmt}
 use Rattle.asl_rules.specs.report.MaskTables.{Cases, cases_in, body_of, cases_of}

@@ -13,8 +13,8 @@ use Rattle.asl_syn.specs.declared.tree.Alternative.TheFolds.{fold-roll-Otherwise
 use Rattle.asl_syn.specs.declared.tree.Alternative.TheFolds.{map-Otherwise, map-Stmt}
 use Rattle.asl_rules.specs.declarations.UsedNames.{Use, Uses, of_subprogram, of_type, Each, joined, expr_uses, pattern_uses, type_uses}
 use Rattle.asl_rules.specs.declarations.UsedNames.{maybe_expr_uses, maybe_type_uses}
-use Rattle.asl_rules.specs.declarations.StmtUses.{target_uses, item_uses, in_alternative, in_catcher, in_branch, in_otherwise, in_stmt, alternative_uses}
-use Rattle.asl_rules.specs.declarations.StmtUses.{catcher_uses, branch_uses, otherwise_uses, stmt_uses}
+use Rattle.asl_laws.specs.StmtUses.{target_uses, item_uses, in_alternative, in_catcher, in_branch, in_otherwise, in_stmt, alternative_uses}
+use Rattle.asl_laws.specs.StmtUses.{catcher_uses, branch_uses, otherwise_uses, stmt_uses}
 use Rattle.asl_laws.proofs.names.ByUses.{each_first, each_second, Kept, kept_list}
 use Rattle.asl_laws.proofs.names.StmtInduction as induction
 

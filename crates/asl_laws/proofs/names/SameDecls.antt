@@ -1,7 +1,6 @@
 -- A declaration, a signature and a body are judged alike in two scopes with the same names in the same places, where each name that is used
 -- stands for the same and calls of it choose the same.
-use Rattle.std.proofs.Common.{◌≡◌, ℕ, ℤ, not, cond, Bool, true, false, ◌&&◌, List, [], ◌∷◌, ◌++◌, Option, Some, None, Ok, Err, refl, sym}
-use Rattle.std.proofs.Common.{ap}
+use Rattle.std.proofs.Common.{◌≡◌, ℕ, ℤ, not, cond, Bool, true, false, ◌&&◌, List, [], ◌∷◌, ◌++◌, Option, Some, None, Ok, refl, sym, ap}
 use Rattle.std.proofs.Common.{ap₂, ◌∙◌, append_assoc, append-nil}
 use Rattle.std.specs.Prelude.{Result}
 use Rattle.asl_syn.specs.declared.token.Span.{Span}
@@ -17,9 +16,7 @@ use Rattle.asl_syn.specs.declared.tree.TypeDef.TheVariants as td
 use Rattle.asl_syn.specs.declared.tree.StorageDecl.{StorageDecl}
 use Rattle.asl_syn.specs.declared.tree.Func.{Func}
 use Rattle.asl_syn.specs.declared.tree.Decl.{Decl}
-use Rattle.asl_syn.specs.declared.tree.TypeDecl.{TypeDecl}
-use Rattle.asl_rules.specs.values.Values.{Value}
-use Rattle.asl_rules.proofs.basics.Answering.{of_this}
+use Rattle.asl_syn.specs.declared.tree.Decl.TheVariants as dc
 use Rattle.asl_rules.specs.declared.effect.Effect.{Effect}
 use Rattle.asl_rules.specs.declared.effect.Effect.TheVariants.{Pure}
 use Rattle.asl_rules.specs.Faults.{◌>>=◌, ◌>>◌, need, none_at, found_or, fitted}
@@ -32,38 +29,27 @@ use Rattle.asl_rules.specs.expressions.Typing.{Typed}
 use Rattle.asl_rules.specs.types.Widths.{bounded}
 use Rattle.asl_rules.specs.values.Members.{has_name}
 use Rattle.asl_rules.specs.declarations.Layouts.{slot_of}
-use Rattle.asl_rules.specs.expressions.Exprs.{found, found_type, typed, written, expr_span}
-use Rattle.asl_rules.specs.declarations.Barred.{at_var, var_at, barred, limit_barred_at, limit_barred}
-use Rattle.asl_rules.specs.declarations.Constants.{constant}
-use Rattle.asl_rules.specs.declarations.ImpureCalls.{impure_call}
+use Rattle.asl_rules.specs.expressions.Exprs.{found, found_type}
+use Rattle.asl_rules.specs.declarations.Barred.{at_var, barred_at, barred}
 use Rattle.asl_rules.specs.statements.Locals.{itself}
 use Rattle.asl_rules.specs.declarations.Declarations.{in_names, fields_written, once, def_rule, supertype_rule, reached, is_none}
-use Rattle.asl_rules.specs.declarations.Declarations.{type_entries, with_type, unannotated, first_in, known, storage_rule, over}
-use Rattle.asl_rules.specs.declarations.Declarations.{type_decl_rule, storage_decl_rule}
-use Rattle.asl_rules.specs.declarations.InitialValues.{evaluated, ended, holds_call, run_before, value_before}
-use Rattle.asl_rules.specs.declarations.Environments.{is_var}
-use Rattle.asl_rules.specs.declarations.Signatures.{Head, params_free, formals_free, param_written, param_entry, params_rule, formals_rule}
-use Rattle.asl_rules.specs.declarations.Signatures.{result_rule, limit_typed, params_are_integers, as_number, limit_rule, with_formals}
-use Rattle.asl_rules.specs.declarations.Signatures.{class_of, signature_rule, body_rule}
+use Rattle.asl_rules.specs.declarations.Declarations.{type_entries, evaluated, with_type, unannotated, first_in, known, storage_rule}
+use Rattle.asl_rules.specs.declarations.Declarations.{is_var, decl_rule}
+use Rattle.asl_rules.specs.declarations.Programs.{Head, params_free, formals_free, param_written, param_entry, params_rule, formals_rule}
+use Rattle.asl_rules.specs.declarations.Programs.{result_rule, limit_typed, params_are_integers, as_number, limit_rule, with_formals}
+use Rattle.asl_rules.specs.declarations.Programs.{class_of, signature_rule, body_rule}
 use Rattle.asl_rules.proofs.basics.Tests.{some_none}
 use Rattle.asl_rules.specs.declarations.UsedNames.{Use, Uses, of_value, of_subprogram, of_type, or_else, first_said, Each, expr_uses}
 use Rattle.asl_rules.specs.declarations.UsedNames.{type_uses, maybe_expr_uses, maybe_type_uses, formal_uses, def_uses, supertype_uses}
-use Rattle.asl_rules.specs.declarations.StmtUses.{param_uses, head_uses, body_uses}
-use Rattle.asl_rules.specs.declarations.Turns.{decl_rule}
+use Rattle.asl_rules.specs.declarations.UsedNames.{decl_uses}
+use Rattle.asl_laws.specs.StmtUses.{param_uses, head_uses, body_uses}
 use Rattle.asl_laws.proofs.names.ByUses.{each_first, each_second, each_map}
 use Rattle.asl_laws.proofs.names.SameExprs.{SameAt, scope_at, expr_in, written_in, expr_same}
 use Rattle.asl_laws.proofs.names.SameWidths.{SameInWidths, written_same}
 use Rattle.asl_laws.proofs.names.SamePlaces.{SamePlaces, Stands, Shows, same_atom, widths_behind}
 use Rattle.asl_laws.proofs.names.SameStmts.{stmts_same}
 use Rattle.asl_laws.proofs.names.SameValues.{constant_same}
-use Rattle.asl_laws.proofs.names.CallsChosen.{Calls, Chooses, SameSub, expr_calls, same_impure}
 use Rattle.asl_laws.proofs.names.Over.{Over, over_ok, over_by, over_after, over_then, over_same, same_then}
-
--- where an initialiser with a call is evaluated, over these declarations in either scope, it comes to the same
-abbrev pub ValueSame : Tests → List Decl → List Decl → Scope → Scope → Expr → Type 0
-ValueSame t ds es G H e =
-    (S : Typed) → holds_call e ≡ true → barred e G.names ≡ None → typed t e G ≡ Ok S → impure_call G.subs S.tree ≡ None →
-    value_before (over t ds G) e ≡ value_before (over t es H) e
 
 module _ (t : Tests) (A B : List Entry) (ss rs : List Signature) (p : SamePlaces A B) where
   abbrev P : Use → Type 0
@@ -81,21 +67,12 @@ module _ (t : Tests) (A B : List Entry) (ss rs : List Signature) (p : SamePlaces
 
   -- ---- what is barred
 
-  var_use : (u : Use) → P u → var_at A u ≡ var_at B u
-  var_use (of_value span name) h = ap (λ o. at_var span (storage_in o)) h
-  var_use (of_subprogram span name) h = refl
-  var_use (of_type name) h = refl
-
-  var_uses : (us : Uses) → Each P us → first_said (var_at A) us ≡ first_said (var_at B) us
-  var_uses [] g = refl
-  var_uses (u ∷ us) g = ap₂ or_else (var_use u g.0) (var_uses us g.1)
-
-  barred_use : (u : Use) → P u → limit_barred_at A u ≡ limit_barred_at B u
+  barred_use : (u : Use) → P u → barred_at A u ≡ barred_at B u
   barred_use (of_value span name) h = ap (λ o. at_var span (storage_in o)) h
   barred_use (of_subprogram span name) h = refl
   barred_use (of_type name) h = refl
 
-  barred_uses : (us : Uses) → Each P us → first_said (limit_barred_at A) us ≡ first_said (limit_barred_at B) us
+  pub barred_uses : (us : Uses) → Each P us → first_said (barred_at A) us ≡ first_said (barred_at B) us
   barred_uses [] g = refl
   barred_uses (u ∷ us) g = ap₂ or_else (barred_use u g.0) (barred_uses us g.1)
 
@@ -103,22 +80,20 @@ module _ (t : Tests) (A B : List Entry) (ss rs : List Signature) (p : SamePlaces
   said_later None rest h = h
   said_later (Some x) rest h = some_none x h
 
-  -- where a limit holds nothing that is barred, it calls nothing
-  uncalled : (us : Uses) → Each P us → first_said (limit_barred_at A) us ≡ None → Each (SameAt A B ss rs) us
+  -- where nothing is barred, nothing is called
+  uncalled : (us : Uses) → Each P us → first_said (barred_at A) us ≡ None → Each (SameAt A B ss rs) us
   uncalled [] g h = tt
   uncalled (of_value span name ∷ us) g h =
-      let r = said_later (limit_barred_at A (of_value span name)) (first_said (limit_barred_at A) us) h in
-      ((g.0, ap (slot_of name) p.layout), uncalled us g.1 r)
+      ((g.0, ap (slot_of name) p.layout), uncalled us g.1 (said_later (barred_at A (of_value span name)) (first_said (barred_at A) us) h))
   uncalled (of_subprogram span name ∷ us) g h = some_none span h
   uncalled (of_type name ∷ us) g h = (g.0, uncalled us g.1 h)
 
   -- what follows where nothing is barred
   unless_barred : {X : Type 0} (e : Expr) (x y : Result X Fault) → Each P (expr_uses e) →
-      (expr_in A ss (found t e) ≡ expr_in B rs (found t e) → x ≡ y) →
-      (none_at T04 (limit_barred e A) >> x) ≡ (none_at T04 (limit_barred e B) >> y)
-  unless_barred e x y g f = by (limit_barred e A) refl ∙ ap (λ o. none_at T04 o >> y) (barred_uses (expr_uses e) g)
+      (expr_in A ss (found t e) ≡ expr_in B rs (found t e) → x ≡ y) → (none_at T04 (barred e A) >> x) ≡ (none_at T04 (barred e B) >> y)
+  unless_barred e x y g f = by (barred e A) refl ∙ ap (λ o. none_at T04 o >> y) (barred_uses (expr_uses e) g)
     where
-      by : (o : Option Span) → limit_barred e A ≡ o → (none_at T04 o >> x) ≡ (none_at T04 o >> y)
+      by : (o : Option Span) → barred e A ≡ o → (none_at T04 o >> x) ≡ (none_at T04 o >> y)
       by None h = f (expr_same t A B ss rs e (uncalled (expr_uses e) g h))
       by (Some span) h = refl
 
@@ -151,102 +126,30 @@ module _ (t : Tests) (A B : List Entry) (ss rs : List Signature) (p : SamePlaces
       found_or (type_in (g.0 i)) T02 u.span >>= λ U. need (is_none (misfit t (structure T) (structure U))) T25 u.span
       >> Ok (reached u.text U)
 
-  -- a declaration of a type
-  pub type_decl_same : (d : TypeDecl) → Each P (def_uses d.def ++ supertype_uses d.supertype) → (k : Effect) →
-      type_decl_rule t d (first k) ≡ type_decl_rule t d (second k)
-  type_decl_same d g k = λ i.
+  storage_same : (d : StorageDecl) (b : Bool) (w : Option TypeExpr) (e : Option Expr) → Each P (maybe_type_uses w ++ maybe_expr_uses e) →
+      (k : Effect) → storage_rule t d b w e (first k) ≡ storage_rule t d b w e (second k)
+  storage_same d b None None g k = refl
+  storage_same d b (Some w) None g k = λ i. (written_here w (each_first P (type_uses w) [] g) i).ty true (first k)
+      >>= λ W. first_in t (found_type t w).span W.ty
+  storage_same d b None (Some e) g k =
+      unless_barred e _ _ g (λ h i. (h i).typed (first k) >>= λ S. evaluated (constant_same t.limit A B e g i)
+      >>= λ x. Ok (with_type (unannotated b S.ty) x))
+  storage_same d b (Some w) (Some e) g k =
+      let j = each_second P (type_uses w) (expr_uses e) g in
+      unless_barred e _ _ j (λ h i.
+      (written_here w (each_first P (type_uses w) (expr_uses e) g) i).ty true (first k) >>= λ W. (h i).typed (first k) >>= λ S.
+      fitted (misfit t S.ty W.ty) (found t e).span >>
+      evaluated (constant_same t.limit A B e j i) >>= λ x. Ok (with_type W.ty (viewed (closed W.ty) x)))
+
+  -- a declaration of a type or of storage
+  pub decl_same : (d : Decl) → Each P (decl_uses d) → (k : Effect) → decl_rule t d (first k) ≡ decl_rule t d (second k)
+  decl_same (dc.Type d) g k = λ i.
       def_same d.name.text d.def (each_first P (def_uses d.def) (supertype_uses d.supertype) g) k i >>= λ T.
       super_same d.supertype T (each_second P (def_uses d.def) (supertype_uses d.supertype) g) k i >>= λ supers.
       Ok (type_entries d (named d.name.text supers (structure T)))
-
-  -- ---- initialisers
-
-  shows : (u : Use) → Stands A B ss rs u → P u
-  shows (of_value span name) h = h
-  shows (of_subprogram span name) h = tt
-  shows (of_type name) h = h
-
-  same_at : (u : Use) → Stands A B ss rs u → SameAt A B ss rs u
-  same_at (of_value span name) h = (h, ap (slot_of name) p.layout)
-  same_at (of_subprogram span name) h = h
-  same_at (of_type name) h = h
-
-  module _ (ds es : List Decl) (k : Effect) where
-    -- what the initialiser of this expression is judged by
-    pub record InitialSame (e : Expr) : Type 0 where
-      pub uses : Each (Stands A B ss rs) (expr_uses e)
-      pub calls : Each (Chooses t A ss (SameSub ss rs)) (expr_uses e)
-      pub values : ValueSame t ds es (first k) (second k) e
-
-    abbrev pub MaybeSame : Option Expr → Type 0
-    MaybeSame None = Unit {0}
-    MaybeSame (Some e) = InitialSame e
-
-    typed_same : (e : Expr) → InitialSame e → typed t e (first k) ≡ typed t e (second k)
-    typed_same e h = λ i. (expr_same t A B ss rs e (each_map (Stands A B ss rs) (SameAt A B ss rs) same_at (expr_uses e) h.uses) i).typed (first k)
-
-    impure_same : (e : Expr) → InitialSame e → (S : Typed) → typed t e (first k) ≡ Ok S → impure_call ss S.tree ≡ impure_call rs S.tree
-    impure_same e h S q = same_impure ss rs S.tree
-        (of_this (λ (T : Typed). Calls (SameSub ss rs) T.tree) (typed t e (first k)) S q ((expr_calls t A ss (SameSub ss rs) e h.calls).typed k))
-
-    value_same_here : (e : Expr) → InitialSame e → (S : Typed) → barred e A ≡ None → typed t e (first k) ≡ Ok S →
-        impure_call ss S.tree ≡ None →
-        value_before (over t ds (first k)) e ≡ value_before (over t es (second k)) e
-    value_same_here e h S b q m = by (holds_call e) refl
-      where
-        shown : Each P (expr_uses e)
-        shown = each_map (Stands A B ss rs) P shows (expr_uses e) h.uses
-
-        by : (c : Bool) → holds_call e ≡ c → value_before (over t ds (first k)) e ≡ value_before (over t es (second k)) e
-        by true c = h.values S c b q m
-        by false c =
-            ap (λ z. cond z (ended (expr_span e) (run_before (over t ds (first k)) e)) (evaluated (constant t.limit e A))) c
-            ∙ ap evaluated (constant_same t.limit A B e shown)
-            ∙ sym (ap (λ z. cond z (ended (expr_span e) (run_before (over t es (second k)) e)) (evaluated (constant t.limit e B))) c)
-
-    bind_known : {X Y : Type 0} (r s : Result X Fault) (f g : X → Result Y Fault) → r ≡ s → ((x : X) → r ≡ Ok x → f x ≡ g x) →
-        (r >>= f) ≡ (s >>= g)
-    bind_known {X = X} r s f g q h = by r refl ∙ ap (λ z. z >>= g) q
-      where
-        by : (z : Result X Fault) → r ≡ z → (z >>= f) ≡ (z >>= g)
-        by (Ok x) e = h x e
-        by (Err x) e = refl
-
-    unless : {X : Type 0} (o q : Option Span) (x y : Result X Fault) → o ≡ q → (o ≡ None → x ≡ y) →
-        (none_at T04 o >> x) ≡ (none_at T04 q >> y)
-    unless o q x y e h = by o refl ∙ ap (λ z. none_at T04 z >> y) e
-      where
-        by : (z : Option Span) → o ≡ z → (none_at T04 z >> x) ≡ (none_at T04 z >> y)
-        by None i = h i
-        by (Some span) i = refl
-
-    -- what follows the type of an initialiser
-    valued : {X : Type 0} (e : Expr) (h : InitialSame e) (S : Typed) (f : Value → Result X Fault) → barred e A ≡ None →
-        typed t e (first k) ≡ Ok S →
-        (none_at T04 (impure_call ss S.tree) >> (value_before (over t ds (first k)) e >>= f))
-        ≡ (none_at T04 (impure_call rs S.tree) >> (value_before (over t es (second k)) e >>= f))
-    valued e h S f b q = unless (impure_call ss S.tree) (impure_call rs S.tree) _ _ (impure_same e h S q) (λ m.
-        ap (λ r. r >>= f) (value_same_here e h S b q m))
-
-    storage_same : (d : StorageDecl) (b : Bool) (w : Option TypeExpr) (e : Option Expr) → Each P (maybe_type_uses w) → MaybeSame e →
-        storage_rule t ds d b w e (first k) ≡ storage_rule t es d b w e (second k)
-    storage_same d b None None g h = refl
-    storage_same d b (Some w) None g h = λ i. (written_here w g i).ty true (first k) >>= λ W. first_in t (found_type t w).span W.ty
-    storage_same d b None (Some e) g h =
-        unless (barred e A) (barred e B) _ _ (var_uses (expr_uses e) (each_map (Stands A B ss rs) P shows (expr_uses e) h.uses)) (λ n.
-        bind_known (typed t e (first k)) (typed t e (second k)) _ _ (typed_same e h) (λ S q.
-        valued e h S (λ x. Ok (with_type (unannotated b S.ty) x)) n q))
-    storage_same d b (Some w) (Some e) g h =
-        unless (barred e A) (barred e B) _ _ (var_uses (expr_uses e) (each_map (Stands A B ss rs) P shows (expr_uses e) h.uses)) (λ n.
-        bind_known (written t w true (first k)) (written t w true (second k)) _ _ (λ i. (written_here w g i).ty true (first k)) (λ W o.
-        bind_known (typed t e (first k)) (typed t e (second k)) _ _ (typed_same e h) (λ S q.
-        ap (λ r. fitted (misfit t S.ty W.ty) (found t e).span >> r) (valued e h S (λ x. Ok (with_type W.ty (viewed (closed W.ty) x))) n q))))
-
-    -- a declaration of storage
-    pub storage_decl_same : (d : StorageDecl) → Each P (maybe_type_uses d.ty) → MaybeSame d.init →
-        storage_decl_rule t ds d (first k) ≡ storage_decl_rule t es d (second k)
-    storage_decl_same d g h =
-        ap (λ r. r >>= λ s. Ok (global d.name.text s.ty (is_var d.kind) s.value ∷ [])) (storage_same d (is_var d.kind) d.ty d.init g h)
+  decl_same (dc.Storage d) g k = λ i. storage_same d (is_var d.kind) d.ty d.init g k i
+      >>= λ s. Ok (global d.name.text s.ty (is_var d.kind) s.value ∷ [])
+  decl_same (dc.Func f) g k = refl
 
 -- ---- signatures and bodies
 

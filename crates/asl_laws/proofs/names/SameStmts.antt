@@ -56,7 +56,7 @@ use Rattle.asl_rules.specs.statements.Stmts.{invoked, returned, return_rule, thr
 use Rattle.asl_rules.specs.statements.Stmts.{stmt_layer_rule, branch_found, alternative_found, catcher_found, otherwise_found, found_stmt}
 use Rattle.asl_rules.specs.declarations.UsedNames.{Use, of_subprogram, Each, joined, expr_uses, pattern_uses, type_uses, maybe_expr_uses}
 use Rattle.asl_rules.specs.declarations.UsedNames.{maybe_type_uses}
-use Rattle.asl_rules.specs.declarations.StmtUses.{target_uses, item_uses, stmt_uses}
+use Rattle.asl_laws.specs.StmtUses.{target_uses, item_uses, stmt_uses}
 use Rattle.asl_laws.proofs.names.ByUses.{each_first, each_second, found_list}
 use Rattle.asl_laws.proofs.names.ByStmtUses as by_uses
 use Rattle.asl_laws.proofs.names.ByStmtUses.{OwnStmt, OwnAlternative, OwnCatcher, OwnBranch}

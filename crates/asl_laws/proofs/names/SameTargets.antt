@@ -26,7 +26,7 @@ use Rattle.asl_rules.specs.statements.Targets.{TypedSuffix, by_slices, by_elemen
 use Rattle.asl_rules.specs.statements.Targets.{behind, behind_suffix, reached, behind_suffixes, TypedPlace, FoundTarget, inside, all_places}
 use Rattle.asl_rules.specs.statements.Targets.{one_place, target_layer, found_target, placed, all_placed}
 use Rattle.asl_rules.proofs.basics.Answering.{OfAnswer, behind as each_behind}
-use Rattle.asl_rules.specs.declarations.StmtUses.{suffix_uses, suffixes_uses, in_target, target_uses}
+use Rattle.asl_laws.specs.StmtUses.{suffix_uses, suffixes_uses, in_target, target_uses}
 use Rattle.asl_laws.proofs.names.ByUses.{each_first, each_second, found_list, kept_list}
 use Rattle.asl_laws.proofs.names.SameExprs.{SameAt, scope_at, SliceSame, slices_same, adds_same, expr_same, slice_same}
 

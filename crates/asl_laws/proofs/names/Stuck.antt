@@ -1,7 +1,7 @@
 -- Where each of some declarations uses another one of them, one of these reaches itself.
 use Rattle.std.proofs.Common.{◌≡◌, inl, inr, Bool, true, false, List, [], ◌∷◌, length, refl, sym, ◌∙◌, subst}
 use Rattle.asl_syn.specs.declared.tree.Decl.{Decl}
-use Rattle.asl_rules.specs.declarations.Uses.{uses_one_of, leads_to, reaches}
+use Rattle.asl_rules.specs.declarations.Uses.{uses_one_of, leads_to, reaches_itself}
 use Rattle.asl_rules.proofs.basics.Tests.{no}
 use Rattle.asl_rules.proofs.verdict.Distinct.{In}
 use Rattle.asl_rules.proofs.verdict.Reaching.{one_step, short, then_on}
@@ -21,7 +21,7 @@ module _ (ds : List Decl) where
   not_both b h g = no (sym g ∙ h)
 
   least_by : (x : Decl) (xs : List Decl) → ((d : Decl) → In d (x ∷ xs) → In d ds) →
-      ((d : Decl) → In d (x ∷ xs) → reaches ds d d ≡ false) → (m : Least xs) → (b : Bool) → leads_to (length ds) ds m.one x ≡ b →
+      ((d : Decl) → In d (x ∷ xs) → reaches_itself ds d ≡ false) → (m : Least xs) → (b : Bool) → leads_to (length ds) ds m.one x ≡ b →
       Least (x ∷ xs)
   least_by x xs i r m true h = record {
     one = x;
@@ -41,7 +41,7 @@ module _ (ds : List Decl) where
       from e (inr j) = m.none e j
 
   least : (x : Decl) (xs : List Decl) → ((d : Decl) → In d (x ∷ xs) → In d ds) →
-      ((d : Decl) → In d (x ∷ xs) → reaches ds d d ≡ false) → Least (x ∷ xs)
+      ((d : Decl) → In d (x ∷ xs) → reaches_itself ds d ≡ false) → Least (x ∷ xs)
   least x [] i r = record { one = x; is_in = inl refl; none = from }
     where
       from : (e : Decl) → In e (x ∷ []) → leads_to (length ds) ds x e ≡ false
@@ -57,7 +57,7 @@ module _ (ds : List Decl) where
     pub is_in : In one xs
     pub is_used : uses_one_of d one ≡ true
 
-  pub none_stuck : (xs : List Decl) → ((d : Decl) → In d xs → In d ds) → ((d : Decl) → In d xs → reaches ds d d ≡ false) →
+  pub none_stuck : (xs : List Decl) → ((d : Decl) → In d xs → In d ds) → ((d : Decl) → In d xs → reaches_itself ds d ≡ false) →
       ((d : Decl) → In d xs → UsesOne d xs) → (d : Decl) → In d xs → ⊥
   none_stuck [] i r u d j = j
   none_stuck (x ∷ xs) i r u d j =

@@ -1,13 +1,11 @@
 -- Two lists of names that differ in what names stand for alone: the same names in the same places, storage in the same places, and at some
 -- names the same standing. So what uses these names alone is judged alike with both, and no order need be known in which they were made.
 use Rattle.std.proofs.Common.{◌≡◌, ℕ, suc, Bool, true, false, cond, not, ◌&&◌, List, [], ◌∷◌, ◌++◌, Option, Some, None, refl, sym, ap, ◌∙◌}
-use Rattle.std.proofs.Common.{subst, ◌+◌, arith}
-use Rattle.std.specs.Prelude.{slice_get}
+use Rattle.std.proofs.Common.{subst}
 use Rattle.std.specs.Str.{bytes_eq}
 use Rattle.asl_rules.specs.types.Types.{Parts, same_kinds}
 use Rattle.asl_rules.specs.declarations.Scopes.{Entry, Signature, Chosen, Standing, Stored, Subprogram, TypeName, Label, standing_of}
-use Rattle.asl_rules.specs.declarations.Scopes.{is_absent, is_free, is_local, next_atom, with_entry, with_entries, choose, choose_from}
-use Rattle.asl_rules.proofs.basics.Tests.{both, some_same, none_some}
+use Rattle.asl_rules.specs.declarations.Scopes.{is_absent, is_free, is_local, next_atom, with_entry, with_entries, choose_from}
 use Rattle.asl_rules.specs.declarations.Layouts.{local_name, global_name, local_names, global_names}
 use Rattle.asl_laws.proofs.names.SamePlaces.{SamePlaces}
 
@@ -174,37 +172,3 @@ sigs_choose n Ts m (s ∷ ss) (r ∷ rs) p = by (bytes_eq s.name n) refl (sigs_c
         ≡ cond (b && same_kinds r.formals Ts) (Some (chosen m r)) (choose_from (suc m) n Ts rs)
     by true q h = λ i. cond (same_kinds (p.0.same q i).formals Ts) (Some (chosen m (p.0.same q i))) (h i)
     by false q h = h
-
--- a subprogram that is chosen is the same in both
-pub record SameAt (ss rs : List Signature) (m : ℕ) (c : Chosen) : Type 0 where
-  pub place : ℕ
-  pub is : c.number ≡ m + place
-  pub same : slice_get ss place ≡ slice_get rs place
-
-sigs_from : (n : List ℕ) (Ts : Parts) (m : ℕ) (c : Chosen) (ss rs : List Signature) → SigTwins n ss rs → choose_from m n Ts ss ≡ Some c →
-    SameAt ss rs m c
-sigs_from n Ts m c [] rs p h = none_some c h
-sigs_from n Ts m c (s ∷ ss) [] p h = absurd p
-sigs_from n Ts m c (s ∷ ss) (r ∷ rs) p h = by (bytes_eq s.name n && same_kinds s.formals Ts) refl h (sigs_from n Ts (suc m) c ss rs p.1)
-  where
-    here : Chosen
-    here = record { number = m; signature = s }
-
-    by : (b : Bool) → (bytes_eq s.name n && same_kinds s.formals Ts) ≡ b → cond b (Some here) (choose_from (suc m) n Ts ss) ≡ Some c →
-        (choose_from (suc m) n Ts ss ≡ Some c → SameAt ss rs (suc m) c) → SameAt (s ∷ ss) (r ∷ rs) m c
-    by true q k next =
-        let e : m ≡ c.number = ap (λ (z : Chosen). z.number) (some_same here c k) in
-        let t : bytes_eq s.name n ≡ true = (both (bytes_eq s.name n) (same_kinds s.formals Ts) q).0 in
-        record { place = 0; is = omega (arith, e); same = ap Some (p.0.same t) }
-    by false q k next =
-        let r = next k in
-        let e : c.number ≡ suc m + r.place = r.is in
-        record { place = suc r.place; is = omega (arith, e); same = r.same }
-
-pub sigs_chosen : (n : List ℕ) (Ts : Parts) (c : Chosen) (ss rs : List Signature) → SigTwins n ss rs → choose n Ts ss ≡ Some c →
-    slice_get ss c.number ≡ slice_get rs c.number
-sigs_chosen n Ts c ss rs p h =
-    let r = sigs_from n Ts 0 c ss rs p h in
-    let i : c.number ≡ 0 + r.place = r.is in
-    let e : r.place ≡ c.number = omega (arith, i) in
-    subst (λ z. slice_get ss z ≡ slice_get rs z) e r.same

@@ -8,9 +8,7 @@ use Rattle.asl_rules.specs.declared.entry.Entry.TheVariants as entry
 use Rattle.asl_rules.specs.declarations.Turns.{globals_rule}
 use Rattle.asl_rules.specs.Faults.{fault_of}
 use Rattle.asl_rules.specs.declarations.Names.{names_rule, all_declared}
-use Rattle.asl_rules.specs.declarations.Programs.{Accepted, Entries, accepted, entries, entry16_rule, entry_found, entry_from, entry_rule, is_decode, is_decode16, is_main, main_rule, verdict}
-use Rattle.asl_rules.specs.declarations.Signatures.{bodies_rule, overloads_rule, signatures, signatures_rule}
-use Rattle.asl_rules.specs.declarations.Environments.{funcs_of, origin}
+use Rattle.asl_rules.specs.declarations.Programs.{Accepted, Entries, accepted, bodies_rule, entries, entry16_rule, entry_found, entry_from, entry_rule, funcs_of, is_decode, is_decode16, is_main, main_rule, origin, overloads_rule, signatures, signatures_rule, verdict}
 use Rattle.asl_rules.specs.declarations.Scopes.{Entry as Visible, Signature}
 use Rattle.asl_rules.specs.Tests.{Tests}
 use Rattle.asl_rules.specs.runs.Trees.{TreeFunc}

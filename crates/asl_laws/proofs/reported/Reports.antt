@@ -11,7 +11,7 @@ use Rattle.asl_rules.specs.runs.Words.{wanted}
 use Rattle.asl_rules.specs.declarations.Programs.{environment}
 use Rattle.asl_rules.specs.Tests.{IsRight, Tests}
 use Rattle.asl_laws.proofs.scopes.GrownTexts.{judged_grown}
-use Rattle.asl_laws.proofs.soundness.ProgramSound.{soundness}
+use Rattle.asl_laws.proofs.soundness.Soundness.{soundness}
 use Rattle.asl_laws.proofs.soundness.SoundnessEntry.{main_call}
 use Rattle.asl_laws.proofs.soundness.SoundnessFacts.{facts_of}
 use Rattle.asl_laws.specs.Reported.{RunsWell}

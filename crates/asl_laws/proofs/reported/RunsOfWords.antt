@@ -75,27 +75,27 @@ have_entries a ws h = let t = asked_there a (some_short ws) (some_long ws) h in 
 
 module _ (t : Tests) (ds : List Decl) (a : Accepted) (sound : Soundness t ds a) where
   -- the words behind a call
-  behind_call : (rest : List Binding → Meter → WordsEnd) → ((globals : List Binding) (h : Meter) → GlobalsMatch a.names no_atoms globals → WordsNotStuck (rest globals h))
-      → (r : Outcome Core (Option Value)) → NotStuck r → KeepsGlobals a.names no_atoms r → WordsNotStuck (behind_word rest r)
+  behind_call : (rest : List Binding → Meter → WordsEnd) → ((globals : List Binding) (h : Meter) → GlobalsMatch a.names globals → WordsNotStuck (rest globals h))
+      → (r : Outcome Core (Option Value)) → NotStuck r → KeepsGlobals a.names r → WordsNotStuck (behind_word rest r)
   behind_call rest each (Done x c h) n m = each c.globals h m
   behind_call rest each (Thrown x c h) n m = tt
   behind_call rest each (Halt (Faulted code span) c h) n m = tt
   behind_call rest each (Halt (Stuck mistake span) c h) n m = n
 
   abbrev Goes : Outcome Core (Option Value) → Type 0
-  Goes r = NotStuck r × KeepsGlobals a.names no_atoms r
+  Goes r = NotStuck r × KeepsGlobals a.names r
 
   -- the call with the word as it is does what the call does with the bitfields of the formal
   one_call : (name : List ℕ) (width n : ℕ) (id : ℕ) (globals : List Binding) (h : Meter) →
       entry_from (takes_word name width) 0 a.signatures ≡ Some id
-      → GlobalsMatch a.names no_atoms globals → Goes (run_of (environment t ds) id (bits_with (bits_of width n) [] ∷ []) globals h)
+      → GlobalsMatch a.names globals → Goes (run_of (environment t ds) id (bits_with (bits_of width n) [] ∷ []) globals h)
   one_call name width n id globals h first m =
       let d = word_call a id globals m name width first (bits_of width n) (length-bits_of width n) in
       let args = word_for d.signature.formals (bits_of width n) ∷ [] in
       subst Goes (run_viewed (environment t ds) id (type_with (only_formal d.signature.formals) no_atoms) (bits_of width n) globals h)
       (sound.never_stuck id args globals h d.call, sound.keeps_globals id args globals h d.call)
 
-  by_width : (b : Bool) (n : ℕ) (w : Word) (globals : List Binding) (h : Meter) → HasEntry a b → GlobalsMatch a.names no_atoms globals →
+  by_width : (b : Bool) (n : ℕ) (w : Word) (globals : List Binding) (h : Meter) → HasEntry a b → GlobalsMatch a.names globals →
       word_value w ≡ bits_with (bits_of (cond b 16 32) n) []
       → Goes (run_word (environment t ds) (cond b a.entries.entry16 a.entries.main) w globals h)
   by_width true n w globals h f m e =
@@ -107,11 +107,11 @@ module _ (t : Tests) (ds : List Decl) (a : Accepted) (sound : Soundness t ds a) 
       (subst (λ x. Goes (run_of (environment t ds) f.id (x ∷ []) globals h)) (sym e)
       (one_call (codes "decode") 32 n f.id globals h f.first m))
 
-  one_word : (w : Word) (globals : List Binding) (h : Meter) → HasEntry a (is_short w) → GlobalsMatch a.names no_atoms globals
+  one_word : (w : Word) (globals : List Binding) (h : Meter) → HasEntry a (is_short w) → GlobalsMatch a.names globals
       → Goes (run_word (environment t ds) (entry_for a.entries w) w globals h)
   one_word w globals h f m = by_width (is_short w) w.bits w globals h f m refl
 
-  pub words_not_stuck : (ws : List Word) (globals : List Binding) (h : Meter) → HaveEntries a ws → GlobalsMatch a.names no_atoms globals
+  pub words_not_stuck : (ws : List Word) (globals : List Binding) (h : Meter) → HaveEntries a ws → GlobalsMatch a.names globals
       → WordsNotStuck (run_words (environment t ds) a.entries ws globals h)
   words_not_stuck [] globals h f m = tt
   words_not_stuck (w ∷ ws) globals h f m =

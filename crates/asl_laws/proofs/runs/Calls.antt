@@ -5,7 +5,7 @@ use Rattle.asl_syn.specs.declared.token.Span.{Span}
 use Rattle.asl_syn.specs.declared.tree.Expr.{Expr}
 use Rattle.asl_syn.specs.declared.tree.Func.{Func}
 use Rattle.asl_syn.specs.declared.tree.Stmt.{Stmt}
-use Rattle.asl_rules.specs.declarations.Environments.{Environment, funcs_of, origin}
+use Rattle.asl_rules.specs.declarations.Programs.{Environment, funcs_of, origin}
 use Rattle.asl_rules.specs.values.Values.{Value, Exit, Normal, Returned}
 use Rattle.asl_rules.specs.runs.States.{Core, restored}
 use Rattle.asl_rules.specs.runs.Plans.{Pure, Good, Bad, Ret, lift}

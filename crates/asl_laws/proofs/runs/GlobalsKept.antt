@@ -25,7 +25,7 @@ use Rattle.asl_syn.specs.declared.tree.Param.{Param}
 use Rattle.asl_syn.specs.declared.tree.Func.{Func}
 use Rattle.asl_syn.specs.Layers.{ExprLayer, StmtLayer}
 use Rattle.asl_rules.specs.types.Closed.{Closed}
-use Rattle.asl_rules.specs.declarations.Environments.{Environment, funcs_of, origin}
+use Rattle.asl_rules.specs.declarations.Programs.{Environment, funcs_of, origin}
 use Rattle.asl_rules.specs.values.Values.{Value, Exit, Normal, Returned}
 use Rattle.asl_rules.specs.runs.States.{Under, of_type, kept, Binding, Core, entered, restored, resting}
 use Rattle.asl_rules.specs.types.Numbers.{Numbers, present, outside}
@@ -38,8 +38,7 @@ use Rattle.asl_rules.specs.runs.Forms.{Keeps as Returns, returned, at_end, call,
 use Rattle.asl_rules.specs.values.Operators.{less}
 use Rattle.asl_rules.specs.runs.StatementForms.{in_order, try_list}
 use Rattle.asl_rules.specs.runs.Evaluation.{put_value, map_pure, stored_in, first_store, store, held, declared, declare, declare_each, bound_to, stored_under, unders_or, declare_all, declare_first, sized_at, param_value, param_under, type_under, type_at, types_of, params_bound, formals_bound, Entering, entering, run_body, run_with, result_at, limit_of, params_of, overload, Numbered, call_one, call_named, called, expr_node, frames, otherwise_in, catch_layer, catch_in, Step, updated, store_at, Stores, Assigning, assign_each, assigning_layer, assigned, stmt_node, nodes, meaning, call_of}
-use Rattle.asl_rules.specs.runs.Limits.{most_open}
-use Rattle.asl_rules.specs.runs.Machines.{run_of}
+use Rattle.asl_rules.specs.runs.Machines.{most_open, run_of}
 use Rattle.asl_laws.proofs.runs.PlansKeep.{EndsIn, Keeps, FormsKeep, run_keeps, nodes_keep, Makes, AllMake, AllMade, NamedMakes, lift_keeps, once_keeps, choose_keeps, behind_keeps, behind_all_keeps, behind_more_keeps, operation_keeps, conditional_keeps, element_keeps, tuple_keeps, call_keeps, function_keeps, procedure_keeps, routine_keeps, frame_keeps, list_keeps, branch_keeps, branches_keep, assertion_keeps, value_keeps, values_keep, assignment_keeps, return_keeps, items_keep, case_keeps, for_keeps, while_keeps, repeat_keeps, throw_keeps, try_keeps}
 
 -- ---- the globals but for their values

@@ -1,7 +1,7 @@
 -- Each node has exactly one outcome, since its meaning is a function; and a call takes one step for each node that it enters, and what
 -- is known before any run is what a run gives.
 use Rattle.std.proofs.Common.{◌≡◌, refl}
-use Rattle.asl_rules.specs.declarations.Environments.{Environment}
+use Rattle.asl_rules.specs.declarations.Programs.{Environment}
 use Rattle.asl_rules.specs.runs.Evaluation.{meaning}
 use Rattle.asl_rules.specs.runs.Machines.{run_of}
 use Rattle.asl_laws.specs.OneRun.{ExactlyOne, OneRun}

@@ -8,10 +8,9 @@ use Rattle.asl_rules.specs.runs.Told.{appended, open_after}
 use Rattle.asl_rules.specs.values.Values.{Value}
 use Rattle.asl_rules.specs.runs.States.{Binding, resting}
 use Rattle.asl_rules.specs.runs.Plans.{Meter, starting, wrote, Faulted, Outcome, Done, Thrown, Halt, final, Plan, Ret, Raise, Stop, Eval, Exec, Put, Within, Meaning, handle, run, Nodes, meanings}
-use Rattle.asl_rules.specs.declarations.Environments.{Environment}
+use Rattle.asl_rules.specs.declarations.Programs.{Environment}
 use Rattle.asl_rules.specs.runs.Evaluation.{nodes, call_of}
-use Rattle.asl_rules.specs.runs.Limits.{most_open}
-use Rattle.asl_rules.specs.runs.Machines.{run_of}
+use Rattle.asl_rules.specs.runs.Machines.{most_open, run_of}
 use Rattle.asl_laws.proofs.runs.Budget.{append_nil}
 
 -- with another text

@@ -8,10 +8,9 @@ use Rattle.asl_rules.specs.values.Values.{Value}
 use Rattle.asl_rules.specs.runs.States.{Binding, resting}
 use Rattle.asl_rules.specs.runs.Plans.{Meter, Faulted, Outcome, Done, Thrown, Halt, final, Plan, Ret, Raise, Stop, Eval, Exec, Put, Within, Meaning, handle, run, wrote, enter, Nodes, meanings}
 use Rattle.asl_rules.specs.runs.Visits.{AtExpr, AtStmt, Visit, Trail, after, visits, entered_at, trails, Falls, NoMoreOpen}
-use Rattle.asl_rules.specs.declarations.Environments.{Environment}
+use Rattle.asl_rules.specs.declarations.Programs.{Environment}
 use Rattle.asl_rules.specs.runs.Evaluation.{nodes, call_of}
-use Rattle.asl_rules.specs.runs.Limits.{most_open}
-use Rattle.asl_rules.specs.runs.Machines.{run_of, visits_of}
+use Rattle.asl_rules.specs.runs.Machines.{most_open, run_of, visits_of}
 use Rattle.asl_laws.specs.OneRun.{Measured}
 use Rattle.asl_laws.proofs.runs.Budget.{is_zero, not_zero}
 

@@ -16,11 +16,9 @@ use Rattle.asl_rules.specs.types.Numbers.{Numbers, present}
 use Rattle.asl_rules.specs.runs.States.{Binding, Core, of_type, kept, entered, resting}
 use Rattle.asl_rules.specs.runs.Pures.{◌>>=◌, there, known}
 use Rattle.asl_rules.specs.runs.Plans.{Meter, starting, wrote, Outcome, Done, Thrown, Halt, final, Pure, Good, Bad, lift, meanings, run}
-use Rattle.asl_rules.specs.declarations.Environments.{Environment, funcs_of, origin}
-use Rattle.asl_rules.specs.declarations.Programs.{Entries}
+use Rattle.asl_rules.specs.declarations.Programs.{Environment, Entries, funcs_of, origin}
 use Rattle.asl_rules.specs.runs.Evaluation.{nodes, meaning, call_of, declare, declared, type_at, type_under, params_bound, formals_bound, entering, run_with, run_body}
-use Rattle.asl_rules.specs.runs.Limits.{most_open}
-use Rattle.asl_rules.specs.runs.Machines.{run_of}
+use Rattle.asl_rules.specs.runs.Machines.{most_open, run_of}
 use Rattle.asl_rules.specs.report.Texts.{line_feed}
 use Rattle.asl_rules.specs.report.WordList.{Word}
 use Rattle.asl_rules.specs.runs.Words.{WordsEnd, AllReturned, WordThrew, WordHalted, behind_word, digits_text, entry_for, is_short, run_word, run_words, word_digits, word_line, word_value, word_width, words_final}

@@ -39,9 +39,9 @@ first_none [] fs name h = refl
 first_none (e ∷ es) fs name h = front_none _ e.standing (standing_of name es) (standing_of name (es ++ fs)) h (first_none es fs name)
 
 -- the entry of the new name, and the binding that it gets
-pub declared_agrees : (base : List Entry) (gv : Assignment) (names : List Entry) (a : Assignment) (c : Core) (e : Entry) (x : Value) (u : Under) (m : Bool) → Agrees base gv names a c → is_free e.name names ≡ true → IsPlain e.standing →
-    local_matches (types_in base) a e.name e.standing (record { name = e.name; value = x; under = u; is_mutable = m }) → Agrees base gv (names ++ e ∷ []) a (declared e.name x u m c)
-declared_agrees base gv names a c e x u m g f p k =
+pub declared_agrees : (base names : List Entry) (a : Assignment) (c : Core) (e : Entry) (x : Value) (u : Under) (m : Bool) → Agrees base names a c → is_free e.name names ≡ true → IsPlain e.standing →
+    local_matches (types_in base) a e.name e.standing (record { name = e.name; value = x; under = u; is_mutable = m }) → Agrees base (names ++ e ∷ []) a (declared e.name x u m c)
+declared_agrees base names a c e x u m g f p k =
     let free : standing_of e.name (base ++ g.locals) ≡ None = ap (standing_of e.name) (sym g.names_are) ∙ absent_none (standing_of e.name names) f in
     record {
       locals = g.locals ++ e ∷ [];
@@ -52,7 +52,6 @@ declared_agrees base gv names a c e x u m g f p k =
       globals = g.globals;
       handled = g.handled;
       callers = g.callers;
-      outside = g.outside;
     }
 
 values_snoc : (bs : List Binding) (b : Binding) → values_of (bs ++ b ∷ []) ≡ values_of bs ++ b.value ∷ []

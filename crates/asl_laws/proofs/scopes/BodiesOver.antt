@@ -31,7 +31,7 @@ use Rattle.asl_rules.specs.statements.Acting.{Done, operand_of, fits}
 use Rattle.asl_rules.specs.statements.Locals.{Initialised, initialised_with, taken, itself, counted_as, initialised_as, declared, unannotated, type_declared, part_declared, written_or, initialised, binders_free, bound_parts, bound_in, bound, bind_rule, names_rule, vars_rule}
 use Rattle.asl_rules.specs.statements.Branches.{of_range, index_type, with_index, with_caught}
 use Rattle.asl_rules.specs.declarations.Declarations.{in_names}
-use Rattle.asl_rules.specs.declarations.Signatures.{Head, signatures, params_free, formals_free, param_written, param_entry, type_or_itself, params_rule, formals_rule, result_rule, limit_typed, params_are_integers, limit_rule, with_formals, signature_rule, signatures_rule}
+use Rattle.asl_rules.specs.declarations.Programs.{Head, signatures, params_free, formals_free, param_written, param_entry, type_or_itself, params_rule, formals_rule, result_rule, limit_typed, params_are_integers, limit_rule, with_formals, signature_rule, signatures_rule}
 use Rattle.asl_rules.proofs.basics.Inversions.{ok_ok, bind_ok, then_ok, found_ok}
 use Rattle.asl_rules.proofs.basics.Tests.{none_some, some_same}
 use Rattle.asl_rules.proofs.widths.Counting.{stored_of, standing_back, no_fewer, atoms_snoc}

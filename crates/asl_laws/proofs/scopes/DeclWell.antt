@@ -20,7 +20,7 @@ use Rattle.asl_syn.specs.Layers.{TypeLayer}
 use Rattle.asl_rules.specs.Faults.{◌>>=◌, ◌>>◌, need, none_at, found_or, fitted, fault_of}
 use Rattle.asl_rules.specs.Tests.{Tests, IsRight}
 use Rattle.asl_rules.specs.types.Types.{Ty, Fields, Parts, integer_of, boolean, bits_of, enumeration_of, record_of, exception_of, tuple_of, array_of, named, no_field, field, no_part, part, structure, is_among, misfit, misfit_inside, misfit_of_parts, by_names, or_else, same_kind, parts_of, element_of, bits_wide, kind, kind_eq}
-use Rattle.asl_rules.specs.types.Closed.{Assignment, closed}
+use Rattle.asl_rules.specs.types.Closed.{closed}
 use Rattle.asl_rules.specs.values.Values.{Value, bool, label}
 use Rattle.asl_rules.specs.types.Views.{viewed}
 use Rattle.asl_rules.specs.private.WellFormed.{is_named, HasLabel, Fits, Nearest, Shaped, ShapedFields, WellFormed, WellDeclared, Extends}
@@ -38,14 +38,12 @@ use Rattle.asl_rules.specs.values.Members.{fields_of, has_name, numbered, one_fu
 use Rattle.asl_rules.specs.private.Belonging.{InType}
 use Rattle.asl_rules.specs.private.Agreement.{no_atoms}
 use Rattle.asl_rules.specs.runs.Plans.{Faulted, Stuck, Pure as PureOf, Good, Bad}
+use Rattle.asl_rules.specs.declarations.Constants.{constant}
 use Rattle.asl_rules.specs.types.Written.{first_value}
 use Rattle.asl_rules.specs.declarations.Barred.{barred}
-use Rattle.asl_rules.specs.declarations.ImpureCalls.{impure_call}
 use Rattle.asl_rules.specs.declarations.Names.{labels_of}
 use Rattle.asl_rules.specs.declarations.Turns.{reserved}
-use Rattle.asl_rules.specs.declarations.Declarations.{over, fields_written, once, labels, def_rule, reached, supertype_rule, is_none, label_entries, type_entries, type_decl_rule, Initial, with_type, unannotated, first_in, storage_rule, storage_decl_rule}
-use Rattle.asl_rules.specs.declarations.InitialValues.{evaluated, value_before}
-use Rattle.asl_rules.specs.declarations.Environments.{is_var}
+use Rattle.asl_rules.specs.declarations.Declarations.{in_names, fields_written, once, labels, def_rule, reached, supertype_rule, is_none, label_entries, type_entries, type_decl_rule, evaluated, Initial, with_type, unannotated, known, first_in, storage_rule, is_var, storage_decl_rule, decl_rule}
 use Rattle.asl_laws.proofs.values.Widening.{widened_formed, widened_in}
 use Rattle.asl_rules.proofs.basics.Inversions.{ok_ok, err_ok, bind_ok, then_ok, need_ok, found_ok, fitted_ok}
 use Rattle.asl_rules.proofs.basics.Tests.{no, none_some, some_same, both, and_true, same_name, name_is, or_first, or_second}
@@ -55,7 +53,7 @@ use Rattle.asl_rules.proofs.values.FirstValues.{first_in_type}
 use Rattle.asl_laws.proofs.scopes.MoreNames.{well_formed_grows, shaped_grows, fields_grow, built_grows, structure_shaped}
 use Rattle.asl_rules.proofs.scopes.Naming.{FieldsOnce, OnceIn, GoodNames, fields_once, type_formed}
 use Rattle.asl_rules.proofs.basics.Opening.{bounded_ok, type_opened, found_bitfield, found_part}
-use Rattle.asl_laws.proofs.scopes.WellTyped.{FormedSubs, typed_formed, written_formed}
+use Rattle.asl_laws.proofs.scopes.WellTyped.{typed_formed, written_formed}
 use Rattle.asl_rules.proofs.values.SameKind.{equal_kinds}
 use Rattle.asl_rules.proofs.values.Satisfying.{fit_parts}
 use Rattle.asl_rules.proofs.values.KindsByNames.{kinds_by_names}
@@ -173,24 +171,18 @@ module _ (tests : Tests) where
       subst FieldsOnce (ok_ok (field f.name.text t.value.ty r.value) Fs r.then)
       (no_such_field G fs r.value (before ++ f.name.text ∷ []) f.name.text (has_last before f.name.text) p.1 r.first, fields_written_once G fs r.value (before ++ f.name.text ∷ []) p.1 r.first)
 
-pub evaluated_is : (r : PureOf Value) (x : Value) → evaluated r ≡ Ok x → r ≡ Good x
+evaluated_is : (r : PureOf Value) (x : Value) → evaluated r ≡ Ok x → r ≡ Good x
 evaluated_is (Good y) x h = ap Good (ok_ok y x h)
 evaluated_is (Bad (Faulted code span)) x h = err_ok _ x h
 evaluated_is (Bad (Stuck mistake span)) x h = err_ok (fault_of T04 span) x h
 
--- values of initialisers over these declarations belong to their types, where this is visible
-abbrev pub ValuesBelong : Tests → (List ℕ → Option Ty) → Assignment → List Decl → Scope → Type 0
-ValuesBelong tests d gv decls G =
-    (e : Expr) (S : Typed) (x : Value) → typed tests e G ≡ Ok S → value_before (over tests decls G) e ≡ Ok x → InType d gv x S.ty
-
--- what stands before: well formed, each type under its name, and values of initialisers belong to their types
-pub record Ready (tests : Tests) (right : IsRight tests) (d : List ℕ → Option Ty) (decls : List Decl) (G : Scope) : Type 0 where
-  pub good : GoodNames d G.names
-  pub named_by : (n : List ℕ) (T : Ty) → type_of_name n G.names ≡ Some T → NamedBy n T
+-- what stands before: well formed, each type under its name, and constants belong to their types
+pub record Ready (tests : Tests) (d : List ℕ → Option Ty) (names : List Entry) : Type 0 where
+  pub good : GoodNames d names
+  pub named_by : (n : List ℕ) (T : Ty) → type_of_name n names ≡ Some T → NamedBy n T
   pub declared : WellDeclared d
-  pub is : (n : List ℕ) → d n ≡ type_of_name n G.names
-  pub subs : FormedSubs tests right d declared G.subs
-  pub values : ValuesBelong tests d no_atoms decls G
+  pub is : (n : List ℕ) → d n ≡ type_of_name n names
+  pub constants : (e : Expr) (S : Typed) (x : Value) → typed tests e (in_names names) ≡ Ok S → constant tests.limit e names ≡ Good x → InType d no_atoms x S.ty
 
 -- an enumeration has a label
 abbrev pub LabelsIn : TypeDef → Type 0
@@ -239,10 +231,9 @@ mutual
 misfit_any : (t : Tests) (l : ℕ) (S T : Ty) → misfit t S T ≡ misfit (record t { limit = l }) S T
 misfit_any t l S T = ap (λ o. cond (same_kind S T) o (Some T05)) (any_limit t l S T)
 
-module _ (tests : Tests) (right : IsRight tests) (d D : List ℕ → Option Ty) (grow : Extends d D) (decls : List Decl) (G : Scope)
-    (ready : Ready tests right d decls G) where
-  abbrev names : List Entry
-  names = G.names
+module _ (tests : Tests) (right : IsRight tests) (d D : List ℕ → Option Ty) (grow : Extends d D) (names : List Entry) (ready : Ready tests d names) where
+  abbrev G : Scope
+  G = in_names names
 
   once_is : (T : Ty) (s : TypeShape) (ts : List Tree) (W : Written) → OnceIn (fields_of T) → (let r : Result Written Fault = Ok (written_as T s ts) in r) ≡ Ok W → OnceIn (fields_of W.ty)
   once_is T s ts W o h = subst (λ (z : Written). OnceIn (fields_of z.ty)) (ok_ok (written_as T s ts) W h) o
@@ -365,7 +356,7 @@ module _ (tests : Tests) (right : IsRight tests) (d D : List ℕ → Option Ty) 
   def_well name (td.Record span fs) T supers h w = tt
   def_well name (td.Exception span fs) T supers h w = tt
 
-  pub type_well : (t : TypeDecl) (es : List Entry) → type_decl_rule tests t G ≡ Ok es → LabelsIn t.def → ((n : List ℕ) (T : Ty) → standing_of n es ≡ Some (TypeName T) → D n ≡ Some T) → AllWell D es
+  type_well : (t : TypeDecl) (es : List Entry) → type_decl_rule tests t G ≡ Ok es → LabelsIn t.def → ((n : List ℕ) (T : Ty) → standing_of n es ≡ Some (TypeName T) → D n ≡ Some T) → AllWell D es
   type_well t es h u own =
       let v = bind_ok (def_rule tests t.name.text t.def G) (λ T. supertype_rule tests t.supertype T G >>= λ supers. Ok (type_entries t (named t.name.text supers (structure T)))) es h in
       let s = bind_ok (supertype_rule tests t.supertype v.value G) (λ supers. Ok (type_entries t (named t.name.text supers (structure v.value)))) es v.then in
@@ -379,36 +370,42 @@ module _ (tests : Tests) (right : IsRight tests) (d D : List ℕ → Option Ty) 
 
   -- ---- storage
 
-  storage_good : (s : StorageDecl) (b : Bool) (t : Option TypeExpr) (o : Option Expr) (i : Initial) → storage_rule tests decls s b t o G ≡ Ok i → Kept d i
+  known_is : (e : Expr) (S : Typed) (x : Value) → typed tests e G ≡ Ok S → known tests e G ≡ Ok x → InType d no_atoms x S.ty
+  known_is e S x h k = ready.constants e S x h (evaluated_is (constant tests.limit e names) x k)
+
+  storage_good : (s : StorageDecl) (b : Bool) (t : Option TypeExpr) (o : Option Expr) (i : Initial) → storage_rule tests s b t o G ≡ Ok i → Kept d i
   storage_good s b None None i h = err_ok (fault_of S03 s.span) i h
   storage_good s b (Some t) None i h =
       let v = bind_ok (written tests t true G) (λ W. first_in tests (found_type tests t).span W.ty) i h in
       let w = type_good t v.value v.first in
       let x = bind_ok (evaluated (first_value tests.limit (found_type tests t).span (closed v.value.ty))) (λ x. Ok (with_type v.value.ty x)) i v.then in
       subst (Kept d) (ok_ok (with_type v.value.ty x.value) i x.then)
-      (w, first_in_type tests.limit (found_type tests t).span d no_atoms v.value.ty w x.value (evaluated_is (first_value tests.limit (found_type tests t).span (closed v.value.ty)) x.value x.first))
+      (w, first_in_type tests.limit (found_type tests t).span d v.value.ty w x.value (evaluated_is (first_value tests.limit (found_type tests t).span (closed v.value.ty)) x.value x.first))
   storage_good s b None (Some e) i h =
       let r = then_ok (none_at T04 (barred e names)) _ i h in
       let v = bind_ok (typed tests e G) _ i r.then in
-      let p = then_ok (none_at T04 (impure_call G.subs v.value.tree)) _ i v.then in
-      let x = bind_ok (value_before (over tests decls G) e) (λ x. Ok (with_type (unannotated b v.value.ty) x)) i p.then in
+      let x = bind_ok (known tests e G) (λ x. Ok (with_type (unannotated b v.value.ty) x)) i v.then in
       subst (Kept d) (ok_ok (with_type (unannotated b v.value.ty) x.value) i x.then)
-      (unannotated_kept d b v.value.ty x.value (typed_formed tests right d ready.declared e G v.value ready.good ready.subs v.first) (ready.values e v.value x.value v.first x.first))
+      (unannotated_kept d b v.value.ty x.value (typed_formed tests right d ready.declared e G v.value ready.good tt v.first) (known_is e v.value x.value v.first x.first))
   storage_good s b (Some t) (Some e) i h =
       let r = then_ok (none_at T04 (barred e names)) _ i h in
       let u = bind_ok (written tests t true G) _ i r.then in
       let v = bind_ok (typed tests e G) _ i u.then in
       let f = then_ok (fitted (misfit tests v.value.ty u.value.ty) (found tests e).span) _ i v.then in
-      let p = then_ok (none_at T04 (impure_call G.subs v.value.tree)) _ i f.then in
-      let x = bind_ok (value_before (over tests decls G) e) (λ x. Ok (with_type u.value.ty (viewed (closed u.value.ty) x))) i p.then in
+      let x = bind_ok (known tests e G) (λ x. Ok (with_type u.value.ty (viewed (closed u.value.ty) x))) i f.then in
       let w = type_good t u.value u.first in
-      let k = typed_formed tests right d ready.declared e G v.value ready.good ready.subs v.first in
+      let k = typed_formed tests right d ready.declared e G v.value ready.good tt v.first in
       subst (Kept d) (ok_ok (with_type u.value.ty (viewed (closed u.value.ty) x.value)) i x.then)
-      (w, through_type no_atoms tests right d ready.declared v.value.ty u.value.ty x.value k w (fitted_ok (misfit tests v.value.ty u.value.ty) (found tests e).span tt f.first) (ready.values e v.value x.value v.first x.first))
+      (w, through_type no_atoms tests right d ready.declared v.value.ty u.value.ty x.value k w (fitted_ok (misfit tests v.value.ty u.value.ty) (found tests e).span tt f.first) (known_is e v.value x.value v.first x.first))
 
-  pub storage_well : (s : StorageDecl) (es : List Entry) → storage_decl_rule tests decls s G ≡ Ok es → AllWell D es
+  storage_well : (s : StorageDecl) (es : List Entry) → storage_decl_rule tests s G ≡ Ok es → AllWell D es
   storage_well s es h =
-      let i = bind_ok (storage_rule tests decls s (is_var s.kind) s.ty s.init G) (λ i. Ok (global s.name.text i.ty (is_var s.kind) i.value ∷ [])) es h in
+      let i = bind_ok (storage_rule tests s (is_var s.kind) s.ty s.init G) (λ i. Ok (global s.name.text i.ty (is_var s.kind) i.value ∷ [])) es h in
       let g = storage_good s (is_var s.kind) s.ty s.init i.value i.first in
       subst (AllWell D) (ok_ok (global s.name.text i.value.ty (is_var s.kind) i.value.value ∷ []) es i.then)
       ((well_formed_grows d D grow i.value.ty g.0, i.value.value, refl, in_type_grows d D grow i.value.value i.value.ty g.1, refl), tt)
+
+  pub decl_well : (e : Decl) (es : List Entry) → decl_rule tests e G ≡ Ok es → HasLabels e → ((n : List ℕ) (T : Ty) → standing_of n es ≡ Some (TypeName T) → D n ≡ Some T) → AllWell D es
+  decl_well (dc.Type t) es h u own = type_well t es h u own
+  decl_well (dc.Storage s) es h u own = storage_well s es h
+  decl_well (dc.Func f) es h u own = subst (AllWell D) (ok_ok _ es h) (tt, tt)

@@ -3,12 +3,12 @@
 use Rattle.std.proofs.Common.{◌≡◌, ℕ, zero, suc, ◌⊎◌, inl, inr, Bool, true, false, cond, List, [], ◌∷◌, ◌++◌, Option, Some, None, Ok, Err, refl, sym, ap, ◌∙◌, subst, length, map}
 use Rattle.std.specs.Prelude.{Result}
 use Rattle.asl_syn.specs.declared.code.Fault.{Fault}
+use Rattle.asl_syn.specs.declared.tree.Expr.{Expr}
 use Rattle.asl_syn.specs.declared.tree.TypeExpr.{TypeExpr}
 use Rattle.asl_syn.specs.declared.tree.Ident.{Ident}
 use Rattle.asl_syn.specs.declared.tree.TypeDef.{TypeDef}
 use Rattle.asl_syn.specs.declared.tree.TypeDef.TheVariants as td
 use Rattle.asl_syn.specs.declared.tree.StorageDecl.{StorageDecl}
-use Rattle.asl_syn.specs.declared.tree.TypeDecl.{TypeDecl}
 use Rattle.asl_syn.specs.declared.tree.Decl.{Decl}
 use Rattle.asl_syn.specs.declared.tree.Decl.TheVariants as dc
 use Rattle.asl_rules.specs.Tests.{Tests, IsRight}
@@ -20,17 +20,20 @@ use Rattle.asl_rules.specs.private.WellFormed.{Extends, Fixed}
 use Rattle.asl_rules.specs.private.Judgements.{EachJudged, CameOf}
 use Rattle.asl_rules.specs.declarations.Names.{library, labels_of, names_rule, all_declared}
 use Rattle.asl_rules.specs.declarations.Scopes.{Scope, Entry, Standing, Stored, Subprogram, TypeName, Label, Storage, subprogram, global, label_name, standing_of, storage_in, storage_of, type_in}
-use Rattle.asl_rules.specs.runs.States.{Binding}
-use Rattle.asl_laws.specs.Evaluated.{names_after, scope_after}
+use Rattle.asl_rules.specs.expressions.Typing.{Typed}
+use Rattle.asl_rules.specs.expressions.Exprs.{typed}
+use Rattle.asl_rules.specs.runs.States.{Binding, resting}
+use Rattle.asl_laws.specs.BeforeRuns.{HoldsInitial}
+use Rattle.asl_laws.specs.Evaluated.{names_after}
 use Rattle.asl_rules.specs.private.Belonging.{InType}
 use Rattle.asl_rules.specs.private.Agreement.{no_atoms, IsUnder, IsKnown, HoldsGlobal, types_in, AllMatch, GlobalsMatch, global_matches}
 use Rattle.asl_rules.specs.private.Worth.{IsHeld}
 use Rattle.asl_rules.specs.private.Grown.{is_def_grown, is_grown, AreGrown}
+use Rattle.asl_rules.specs.runs.Plans.{Good}
+use Rattle.asl_rules.specs.declarations.Constants.{constant}
 use Rattle.asl_rules.specs.declarations.Programs.{environment}
-use Rattle.asl_rules.specs.declarations.Declarations.{def_rule, supertype_rule, label_entries, type_entries, Initial, with_type, storage_rule, type_decl_rule, storage_decl_rule}
-use Rattle.asl_rules.specs.declarations.Signatures.{signature_rule, body_rule}
-use Rattle.asl_rules.specs.declarations.Environments.{is_var}
-use Rattle.asl_rules.specs.declarations.Turns.{Brought, only_names, of_func, Judged, Waiting, Fine, judged, SoFar, subs_so_far, scope_so_far, decls_so_far, reserved, entries_or, entries, names_so_far, decl_judged, turns, all_waiting, final, faults_rule, names_of_program, globals_rule, decl_rule}
+use Rattle.asl_rules.specs.declarations.Declarations.{in_names, def_rule, supertype_rule, label_entries, type_entries, Initial, with_type, storage_rule, decl_rule, is_var}
+use Rattle.asl_rules.specs.declarations.Turns.{Judged, Waiting, Fine, judged, SoFar, reserved, entries_or, entries, names_so_far, decl_judged, turns, all_waiting, final, faults_rule, names_of_program, globals_rule}
 use Rattle.asl_rules.specs.runs.Evaluation.{global_under, global_with, global_in, cons_some, globals_among, initial_globals}
 use Rattle.asl_rules.proofs.basics.Inversions.{ok_ok, bind_ok, then_ok}
 use Rattle.asl_rules.proofs.basics.Tests.{no, some_same, none_some, name_is}
@@ -39,16 +42,15 @@ use Rattle.asl_rules.proofs.scopes.Slots.{IsOutside, AllOutside}
 use Rattle.asl_rules.proofs.scopes.EachOnce.{once_apart, passed_over}
 use Rattle.asl_laws.proofs.scopes.OverScope.{NamesOver}
 use Rattle.asl_laws.proofs.widths.TypesOver.{Never}
-use Rattle.asl_laws.proofs.scopes.ScopesOver.{fixed_never}
-use Rattle.asl_laws.proofs.scopes.NamesClean.{turns_over}
+use Rattle.asl_laws.proofs.scopes.ScopesOver.{fixed_never, turns_over}
 use Rattle.asl_rules.proofs.verdict.Distinct.{Distinct, distinct_of, IsPlain, In}
 use Rattle.asl_rules.proofs.verdict.Turning.{each_at, each_waiting, came_in, OneTurn, turn_later, turns_hold}
 use Rattle.asl_rules.proofs.verdict.Named.{AllStand, turns_stand, FoundAt, own_visible, own_stands, found_visible}
 use Rattle.asl_rules.proofs.verdict.SharedNames.{names_once, names_shared}
 use Rattle.asl_rules.proofs.verdict.EachName.{EachName, name_has, visible_have}
 use Rattle.asl_rules.proofs.verdict.AfterTurns.{came_later, next_after, next_holds}
-use Rattle.asl_laws.proofs.scopes.DeclWell.{StandsWell, AllWell, well_at, well_grows, reserved_well, ValuesBelong, Ready, LabelsIn, HasLabels, type_well, storage_well}
-use Rattle.asl_laws.specs.AgreeingTypes.{ResultsFormed}
+use Rattle.asl_laws.proofs.constants.KnownStart.{starts_at}
+use Rattle.asl_laws.proofs.scopes.DeclWell.{StandsWell, AllWell, well_at, well_grows, reserved_well, Ready, LabelsIn, HasLabels, decl_well}
 
 type_standing : (o : Option Standing) (T : Ty) → type_in o ≡ Some T → o ≡ Some (TypeName T)
 type_standing (Some (TypeName U)) T h = ap (λ V. Some (TypeName V)) (some_same U T h)
@@ -84,30 +86,15 @@ def_stored (td.Labels span is) name T = labels_stored T name is
 def_stored (td.Record span fs) name T = tt
 def_stored (td.Exception span fs) name T = tt
 
-type_brings : (tests : Tests) (t : TypeDecl) (G : Scope) (es : List Entry) → type_decl_rule tests t G ≡ Ok es → NoneStored es
-type_brings tests t G es h =
+decl_brings : (tests : Tests) (d : Decl) (G : Scope) (es : List Entry) → decl_rule tests d G ≡ Ok es → Brings d es
+decl_brings tests (dc.Type t) G es h =
     let v = bind_ok (def_rule tests t.name.text t.def G) _ es h in
     let s = bind_ok (supertype_rule tests t.supertype v.value G) _ es v.then in
     subst NoneStored (ok_ok (type_entries t (named t.name.text s.value (structure v.value))) es s.then) (tt, def_stored t.def t.name.text (named t.name.text s.value (structure v.value)))
-
-storage_brings : (tests : Tests) (ds : List Decl) (s : StorageDecl) (G : Scope) (es : List Entry) → storage_decl_rule tests ds s G ≡ Ok es →
-    Brings (dc.Storage s) es
-storage_brings tests ds s G es h =
-    let i = bind_ok (storage_rule tests ds s (is_var s.kind) s.ty s.init G) _ es h in
+decl_brings tests (dc.Storage s) G es h =
+    let i = bind_ok (storage_rule tests s (is_var s.kind) s.ty s.init G) _ es h in
     (i.value, sym (ok_ok (global s.name.text i.value.ty (is_var s.kind) i.value.value ∷ []) es i.then))
-
-decl_brings : (tests : Tests) (ds : List Decl) (js : SoFar) (d : Decl) (b : Brought) → decl_rule tests ds js d ≡ Ok b → Brings d b.names
-decl_brings tests ds js (dc.Type t) b h =
-    let u = bind_ok (type_decl_rule tests t (scope_so_far ds js)) _ b h in
-    subst (λ (z : Brought). Brings (dc.Type t) z.names) (ok_ok (only_names u.value) b u.then) (type_brings tests t (scope_so_far ds js) u.value u.first)
-decl_brings tests ds js (dc.Storage s) b h =
-    let u = bind_ok (storage_decl_rule tests (decls_so_far ds js) s (scope_so_far ds js)) _ b h in
-    subst (λ (z : Brought). Brings (dc.Storage s) z.names) (ok_ok (only_names u.value) b u.then)
-    (storage_brings tests (decls_so_far ds js) s (scope_so_far ds js) u.value u.first)
-decl_brings tests ds js (dc.Func f) b h =
-    let u = bind_ok (signature_rule tests (names_so_far ds js) f) _ b h in
-    let v = bind_ok (body_rule tests (subs_so_far ds js) u.value) _ b u.then in
-    subst (λ (z : Brought). Brings (dc.Func f) z.names) (ok_ok (of_func f u.value.signature) b v.then) (tt, tt)
+decl_brings tests (dc.Func f) G es h = subst NoneStored (ok_ok (subprogram f.name.text ∷ []) es h) (tt, tt)
 
 -- what stands in for a declaration is of its sort
 
@@ -120,9 +107,9 @@ reserved_brings (dc.Type d) = (tt, reserved_labels (labels_of d.def))
 reserved_brings (dc.Storage d) = (with_type boolean (bool false), refl)
 reserved_brings (dc.Func f) = (tt, tt)
 
-judged_brings : (d : Decl) (r : Result Brought Fault) → ((b : Brought) → r ≡ Ok b → Brings d b.names) →
+judged_brings : (d : Decl) (r : Result (List Entry) Fault) → ((es : List Entry) → r ≡ Ok es → Brings d es) →
     Brings d (entries_or d (judged r))
-judged_brings d (Ok b) f = f b refl
+judged_brings d (Ok es) f = f es refl
 judged_brings d (Err e) f = reserved_brings d
 
 -- nothing that stands in is a type
@@ -167,15 +154,11 @@ outside_brought (dc.Func f) es b = outside_none es b
 in_any : (d : List ℕ → Option Ty) (T : Ty) (x : Value) → Fixed T → InType d no_atoms x T → (a : Assignment) → InType d a x T
 in_any d T x f i a = (subst (λ C. has x C ≡ true) (sym (f a)) i.0, i.1, subst (λ C. viewed C x ≡ x) (sym (f a)) i.2)
 
--- after so many turns, where the names are well formed and the globals hold their storage, as they begin, the results of subprograms are well formed and
--- the values of initialisers belong to their types
-abbrev pub AllBelong : Tests → List Decl → Type 0
-AllBelong tests ds =
-    (n : ℕ) → WellNamed (names_after tests n ds) → GlobalsMatch (names_after tests n ds) no_atoms (globals_among ds (names_after tests n ds)) →
-    ResultsFormed (types_in (names_after tests n ds)) (scope_after tests n ds).subs ×
-    ValuesBelong tests (types_in (names_after tests n ds)) no_atoms (decls_so_far ds (turns tests n ds (all_waiting ds))) (scope_after tests n ds)
+-- constants belong to their types, where these names are visible
+abbrev pub ConstantsBelong : Tests → List Entry → Type 0
+ConstantsBelong tests base = (e : Expr) (S : Typed) (x : Value) → typed tests e (in_names base) ≡ Ok S → constant tests.limit e base ≡ Good x → InType (types_in base) no_atoms x S.ty
 
-module _ (tests : Tests) (right : IsRight tests) (ds : List Decl) (distinct : Distinct (all_declared ds)) (labels : (d : Decl) → In d ds → HasLabels d) (belong : AllBelong tests ds) where
+module _ (tests : Tests) (right : IsRight tests) (ds : List Decl) (distinct : Distinct (all_declared ds)) (labels : (d : Decl) → In d ds → HasLabels d) (belong : (base : List Entry) → WellNamed base → GlobalsMatch base (globals_among ds base) → HoldsInitial (record { decls = ds; names = base; limit = tests.limit }) (resting (globals_among ds base)) → ConstantsBelong tests base) where
   abbrev state : ℕ → SoFar
   state n = turns tests n ds (all_waiting ds)
 
@@ -198,14 +181,13 @@ module _ (tests : Tests) (right : IsRight tests) (ds : List Decl) (distinct : Di
   all_bring : (n : ℕ) → AllBring ds (state n)
   all_bring n =
       turns_hold tests ds (λ d j. Brings d (entries_or d j))
-      (λ js a d i r. judged_brings d (decl_rule tests ds js d) (decl_brings tests ds js d))
+      (λ js a d i r. let G = in_names (names_so_far ds js) in judged_brings d (decl_rule tests d G) (decl_brings tests d G))
       n (all_waiting ds) (each_waiting (λ d j. Brings d (entries_or d j)) reserved_brings ds)
 
   all_outside : (n : ℕ) → AllOutside (names_at n)
   all_outside n =
       visible_have (λ e. IsOutside e.standing) (λ m. tt) tests ds (λ d i. refl)
-      (λ js a d i es h. outside_brought (dc.Type d) es (type_brings tests d (scope_so_far ds js) es h))
-      (λ js a d i es h. outside_brought (dc.Storage d) es (storage_brings tests (decls_so_far ds js) d (scope_so_far ds js) es h)) n
+      (λ d i names a es h. outside_brought d es (decl_brings tests d (in_names names) es h)) n
 
   found_in : (n : ℕ) (name : List ℕ) (st : Standing) → IsPlain st → standing_of name (names_at n) ≡ Some st → FoundAt ds (state n) name st
   found_in n name st p h = found_visible ds (state n) name st (all_stand n) p h
@@ -261,27 +243,27 @@ module _ (tests : Tests) (right : IsRight tests) (ds : List Decl) (distinct : Di
 
   -- ---- the globals of a turn
 
-  module _ (gv : Assignment) (n : ℕ) (w : Well n) where
+  module _ (n : ℕ) (w : Well n) where
     abbrev D : List ℕ → Option Ty
     D = types_at n
 
-    library_match : (ns : List (List ℕ)) (es : List Entry) (bs : List Binding) → AllMatch D gv es bs → AllMatch D gv (map subprogram ns ++ es) bs
+    library_match : (ns : List (List ℕ)) (es : List Entry) (bs : List Binding) → AllMatch D es bs → AllMatch D (map subprogram ns ++ es) bs
     library_match [] es bs m = m
     library_match (l ∷ ns) es bs m = library_match ns es bs m
 
-    passed : (name : List ℕ) (st : Standing) (es : List Entry) (bs : List Binding) → has_no_storage st → AllMatch D gv es bs → global_matches D gv name st bs (AllMatch D gv es)
+    passed : (name : List ℕ) (st : Standing) (es : List Entry) (bs : List Binding) → has_no_storage st → AllMatch D es bs → global_matches D name st bs (AllMatch D es)
     passed name (Stored s) es bs k m = absurd k
     passed name Subprogram es bs k m = m
     passed name (TypeName T) es bs k m = m
     passed name (Label T x) es bs k m = m
 
-    none_match : (es tail : List Entry) (bs : List Binding) → NoneStored es → AllMatch D gv tail bs → AllMatch D gv (es ++ tail) bs
+    none_match : (es tail : List Entry) (bs : List Binding) → NoneStored es → AllMatch D tail bs → AllMatch D (es ++ tail) bs
     none_match [] tail bs k m = m
     none_match (e ∷ es) tail bs k m = passed e.name e.standing (es ++ tail) bs k.0 (none_match es tail bs k.1 m)
 
-    under_written : (t : Option TypeExpr) (T : Ty) (x : Value) → Fixed T → InType D gv x T → IsUnder D gv (global_under t T x) T
-    under_written None T x f i = i
-    under_written (Some t) T x f i = sym (f gv)
+    under_written : (t : Option TypeExpr) (T : Ty) (x : Value) → InType D no_atoms x T → IsUnder D no_atoms (global_under t T x) T
+    under_written None T x i = i
+    under_written (Some t) T x i = refl
 
     known_self : (m : Bool) (x : Value) → IsKnown (cond m None (Some x)) x
     known_self true x = tt
@@ -291,40 +273,39 @@ module _ (tests : Tests) (right : IsRight tests) (ds : List Decl) (distinct : Di
     stored s T x = record { ty = T; is_global = true; is_mutable = is_var s.kind; initial = Some x; counted = None }
 
     holds_global : (s : StorageDecl) (T : Ty) (x : Value) → standing_of s.name.text (names_at n) ≡ Some (Stored (stored s T x)) →
-        HoldsGlobal D gv s.name.text (stored s T x) (global_with s T x)
+        HoldsGlobal D s.name.text (stored s T x) (global_with s T x)
     holds_global s T x h =
         let st : Standing = Stored (stored s T x) in
         let k = stands_well n w s.name.text st tt h in
-        let f : Fixed T = fixed_never T ((over_at n).standing s.name.text st h) in
-        let i : InType D gv x T = in_any D T x f (subst (λ y. InType D no_atoms y T) (sym (some_same x k.1 k.2)) k.3) gv in
+        let i : InType D no_atoms x T = subst (λ y. InType D no_atoms y T) (sym (some_same x k.1 k.2)) k.3 in
         record {
           holds = record {
             name_is = refl;
-            under_is = under_written s.ty T x f i;
+            under_is = under_written s.ty T x i;
             mutable_is = refl;
             well_formed = k.0;
             belongs = i;
             known = known_self (is_var s.kind) x;
             counts = tt;
           };
-          fixed = f;
+          fixed = fixed_never T ((over_at n).standing s.name.text st h);
           no_atom = refl;
         }
 
     storage_match : (s : StorageDecl) (es tail : List Entry) (rest : List Binding) → Brings (dc.Storage s) es →
-        standing_of s.name.text (names_at n) ≡ standing_of s.name.text es → AllMatch D gv tail rest →
-        AllMatch D gv (es ++ tail) (cons_some (global_in s (storage_of s.name.text (names_at n))) rest)
+        standing_of s.name.text (names_at n) ≡ standing_of s.name.text es → AllMatch D tail rest →
+        AllMatch D (es ++ tail) (cons_some (global_in s (storage_of s.name.text (names_at n))) rest)
     storage_match s es tail rest b q m =
         let T = b.0.ty in
         let x = b.0.value in
         let st : Standing = Stored (stored s T x) in
         let here : standing_of s.name.text es ≡ Some st = ap (standing_of s.name.text) b.1 ∙ ap (λ t. cond t (Some st) None) (name_is s.name.text) in
         let k = q ∙ here in
-        subst (λ o. AllMatch D gv (es ++ tail) (cons_some (global_in s (storage_in o)) rest)) (sym k)
-        (subst (λ l. AllMatch D gv (l ++ tail) (global_with s T x ∷ rest)) (sym b.1) (holds_global s T x k, m))
+        subst (λ o. AllMatch D (es ++ tail) (cons_some (global_in s (storage_in o)) rest)) (sym k)
+        (subst (λ l. AllMatch D (l ++ tail) (global_with s T x ∷ rest)) (sym b.1) (holds_global s T x k, m))
 
     among_match : (rs : List Decl) (js : SoFar) → ((d : Decl) (j : Judged) → CameOf d j rs js → CameOf d j ds (state n)) → AllBring rs js →
-        AllMatch D gv (entries rs js) (globals_among rs (names_at n))
+        AllMatch D (entries rs js) (globals_among rs (names_at n))
     among_match [] [] f b = tt
     among_match [] (j ∷ js) f b = absurd b
     among_match (d ∷ rs) [] f b = absurd b
@@ -341,13 +322,13 @@ module _ (tests : Tests) (right : IsRight tests) (ds : List Decl) (distinct : Di
         (among_match rs js (λ d k i. f d k (inr i)) b.1)
 
     -- a name that stands for no storage is passed over
-    match_same : AllMatch D gv (names_at n) ≡ AllMatch D gv (map subprogram library ++ entries ds (state n))
+    match_same : AllMatch D (names_at n) ≡ AllMatch D (map subprogram library ++ entries ds (state n))
     match_same =
-        passed_over (AllMatch D gv) (λ e P bs. global_matches D gv e.name e.standing bs P) (λ e es. refl)
-        (λ e P h. ap (λ st bs. global_matches D gv e.name st bs P) h)
+        passed_over (AllMatch D) (λ e P bs. global_matches D e.name e.standing bs P) (λ e es. refl)
+        (λ e P h. ap (λ st bs. global_matches D e.name st bs P) h)
         (entries ds (state n)) (map subprogram library) (names_shared ds (state n) (all_stand n) distinct)
 
-    globals_match_at : GlobalsMatch (names_at n) gv (globals_among ds (names_at n))
+    globals_match_at : GlobalsMatch (names_at n) (globals_among ds (names_at n))
     globals_match_at =
         let bs = globals_among ds (names_at n) in
         let all = among_match ds (state n) (λ d j c. c) (all_bring n) in
@@ -355,53 +336,30 @@ module _ (tests : Tests) (right : IsRight tests) (ds : List Decl) (distinct : Di
 
   -- ---- turn by turn
 
-  abbrev scope_at : ℕ → Scope
-  scope_at n = scope_after tests n ds
+  ready_at : (n : ℕ) → Well n → Ready tests (types_at n) (names_at n)
+  ready_at n w = record {
+    good = good_at n w;
+    named_by = λ name T h. (stands_well n w name (TypeName T) tt (type_standing (standing_of name (names_at n)) T h)).2;
+    declared = record {
+      each = λ name T h. (stands_well n w name (TypeName T) tt (type_standing (standing_of name (names_at n)) T h)).0;
+      fixed = λ name T h. fixed_never T ((over_at n).standing name (TypeName T) (type_standing (standing_of name (names_at n)) T h));
+    };
+    is = λ name. refl;
+    constants = belong (names_at n) (well_named_at n w) (globals_match_at n w) (starts_at tests n ds);
+  }
 
-  abbrev decls_at : ℕ → List Decl
-  decls_at n = decls_so_far ds (state n)
-
-  ready_at : (n : ℕ) → Well n → Ready tests right (types_at n) (decls_at n) (scope_at n)
-  ready_at n w =
-      let b = belong n (well_named_at n w) (globals_match_at no_atoms n w) in
-      record {
-        good = good_at n w;
-        named_by = λ name T h. (stands_well n w name (TypeName T) tt (type_standing (standing_of name (names_at n)) T h)).2;
-        declared = record {
-          each = λ name T h. (stands_well n w name (TypeName T) tt (type_standing (standing_of name (names_at n)) T h)).0;
-          fixed = λ name T h. fixed_never T ((over_at n).standing name (TypeName T) (type_standing (standing_of name (names_at n)) T h));
-        };
-        is = λ name. refl;
-        subs = b.0;
-        values = b.1;
-      }
-
-  brought_well : (n : ℕ) → Well n → Turned n → (d : Decl) (b : Brought) → CameOf d (Fine b) ds (state (suc n)) →
-      decl_rule tests ds (state n) d ≡ Ok b → AllWell (types_at (suc n)) b.names
-  brought_well n w o (dc.Type d) b came h =
-      let u = bind_ok (type_decl_rule tests d (scope_at n)) _ b h in
-      let q : only_names u.value ≡ b = ok_ok (only_names u.value) b u.then in
-      let c : CameOf (dc.Type d) (Fine (only_names u.value)) ds (state (suc n)) = subst (λ z. CameOf (dc.Type d) (Fine z) ds (state (suc n))) (sym q) came in
-      subst (λ (z : Brought). AllWell (types_at (suc n)) z.names) q
-      (type_well tests right (types_at n) (types_at (suc n)) (extends n o) (decls_at n) (scope_at n) (ready_at n w) d u.value u.first
-      (labels (dc.Type d) (came_in (dc.Type d) (Fine b) ds (state (suc n)) came))
-      (λ name T s. ap type_in (own (suc n) (dc.Type d) (Fine (only_names u.value)) name (TypeName T) c s tt)))
-  brought_well n w o (dc.Storage d) b came h =
-      let u = bind_ok (storage_decl_rule tests (decls_at n) d (scope_at n)) _ b h in
-      subst (λ (z : Brought). AllWell (types_at (suc n)) z.names) (ok_ok (only_names u.value) b u.then)
-      (storage_well tests right (types_at n) (types_at (suc n)) (extends n o) (decls_at n) (scope_at n) (ready_at n w) d u.value u.first)
-  brought_well n w o (dc.Func f) b came h =
-      let u = bind_ok (signature_rule tests (names_at n) f) _ b h in
-      let v = bind_ok (body_rule tests (subs_so_far ds (state n)) u.value) _ b u.then in
-      subst (λ (z : Brought). AllWell (types_at (suc n)) z.names) (ok_ok (of_func f u.value.signature) b v.then) (tt, tt)
-
-  judged_well : (n : ℕ) → Well n → Turned n → (d : Decl) → CameOf d (decl_judged tests ds (state n) d) ds (state (suc n)) →
-      AllWell (types_at (suc n)) (entries_or d (decl_judged tests ds (state n) d))
-  judged_well n w o d c = by (decl_rule tests ds (state n) d) refl
+  judged_well : (n : ℕ) → Well n → Turned n → (d : Decl) → CameOf d (decl_judged tests d (names_at n)) ds (state (suc n)) →
+      AllWell (types_at (suc n)) (entries_or d (decl_judged tests d (names_at n)))
+  judged_well n w o d c = by (decl_rule tests d (in_names (names_at n))) refl
     where
-      by : (r : Result Brought Fault) → decl_rule tests ds (state n) d ≡ r → AllWell (types_at (suc n)) (entries_or d (judged r))
+      by : (r : Result (List Entry) Fault) → decl_rule tests d (in_names (names_at n)) ≡ r →
+          AllWell (types_at (suc n)) (entries_or d (judged r))
       by (Err e) q = reserved_well (types_at (suc n)) d
-      by (Ok b) q = brought_well n w o d b (subst (λ r. CameOf d (judged r) ds (state (suc n))) q c) q
+      by (Ok es) q =
+          let came : CameOf d (Fine es) ds (state (suc n)) = subst (λ r. CameOf d (judged r) ds (state (suc n))) q c in
+          decl_well tests right (types_at n) (types_at (suc n)) (extends n o) (names_at n) (ready_at n w) d es q
+          (labels d (came_in d (Fine es) ds (state (suc n)) came))
+          (λ name T s. ap type_in (own (suc n) d (Fine es) name (TypeName T) came s tt))
 
   one_well : (n : ℕ) → Well n → Turned n → Well (suc n)
   one_well n w o =
@@ -421,21 +379,21 @@ module _ (tests : Tests) (right : IsRight tests) (ds : List Decl) (distinct : Di
   pub turn_named : (n : ℕ) → WellNamed (names_after tests n ds)
   turn_named n = well_named_at n (well_after n)
 
-  pub turn_match : (gv : Assignment) (n : ℕ) → GlobalsMatch (names_after tests n ds) gv (globals_among ds (names_after tests n ds))
-  turn_match gv n = globals_match_at gv n (well_after n)
+  pub turn_match : (n : ℕ) → GlobalsMatch (names_after tests n ds) (globals_among ds (names_after tests n ds))
+  turn_match n = globals_match_at n (well_after n)
 
   -- and so they are at the end
   pub names_good : WellNamed (names_of_program tests ds)
   names_good = turn_named (length ds)
 
-  pub globals_good : (gv : Assignment) → GlobalsMatch (names_of_program tests ds) gv (initial_globals (environment tests ds))
-  globals_good gv = turn_match gv (length ds)
+  pub globals_good : GlobalsMatch (names_of_program tests ds) (initial_globals (environment tests ds))
+  globals_good = turn_match (length ds)
 
 -- ---- of a program
 
 pub names_same : (tests : Tests) (ds : List Decl) (names : List Entry) → globals_rule tests ds ≡ Ok names → names_of_program tests ds ≡ names
 names_same tests ds names h =
-    ok_ok (names_of_program tests ds) names (then_ok (faults_rule tests ds (final tests ds) [] ds (final tests ds)) (Ok (names_of_program tests ds)) names h).then
+    ok_ok (names_of_program tests ds) names (then_ok (faults_rule (final tests ds)) (Ok (names_of_program tests ds)) names h).then
 
 -- what is read from texts has a label in each enumeration
 def_labels : (def : TypeDef) → is_def_grown def ≡ true → LabelsIn def
@@ -455,9 +413,13 @@ grown_labels [] g d i = absurd i
 grown_labels (e ∷ ds) g d (inl q) = subst HasLabels q (own_labels e g.0)
 grown_labels (e ∷ ds) g d (inr i) = grown_labels ds g.1 d i
 
+-- constants belong to their types wherever the names are well formed and the globals hold their storage, as they begin
+abbrev pub AllBelong : Tests → List Decl → Type 0
+AllBelong tests ds = (base : List Entry) → WellNamed base → GlobalsMatch base (globals_among ds base) → HoldsInitial (record { decls = ds; names = base; limit = tests.limit }) (resting (globals_among ds base)) → ConstantsBelong tests base
+
 module _ (tests : Tests) (right : IsRight tests) (ds : List Decl) (names : List Entry) (grown : AreGrown ds) (apart : names_rule [] (all_declared ds) ≡ Ok tt) (rule : globals_rule tests ds ≡ Ok names) (belong : AllBelong tests ds) where
   pub well_named : WellNamed names
   well_named = subst WellNamed (names_same tests ds names rule) (names_good tests right ds (distinct_of (all_declared ds) [] apart) (grown_labels ds grown) belong)
 
-  pub initial_match : (gv : Assignment) → GlobalsMatch names gv (initial_globals (environment tests ds))
-  initial_match gv = subst (λ ns. GlobalsMatch ns gv (initial_globals (environment tests ds))) (names_same tests ds names rule) (globals_good tests right ds (distinct_of (all_declared ds) [] apart) (grown_labels ds grown) belong gv)
+  pub initial_match : GlobalsMatch names (initial_globals (environment tests ds))
+  initial_match = subst (λ ns. GlobalsMatch ns (initial_globals (environment tests ds))) (names_same tests ds names rule) (globals_good tests right ds (distinct_of (all_declared ds) [] apart) (grown_labels ds grown) belong)

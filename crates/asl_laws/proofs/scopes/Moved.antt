@@ -1,18 +1,18 @@
 -- A state that agrees with a scope agrees with it at each assignment that gives the atoms of the scope the same integers; and such an assignment, where the next
 -- atom has an integer of its own.
-use Rattle.std.proofs.Common.{◌≡◌, ℕ, ◌<◌, ℤ, Bool, true, false, cond, List, [], ◌∷◌, ◌++◌, Option, Some, None, refl, sym, ap, ◌∙◌, subst, arith, zero, suc, inl, inr}
+use Rattle.std.proofs.Common.{◌≡◌, ℕ, ◌<◌, ℤ, Bool, true, false, cond, List, [], ◌∷◌, ◌++◌, Option, Some, None, refl, sym, ap, ◌∙◌, subst, arith}
 use Rattle.std.proofs.lemmas.Bool.Decides.{nat_tests}
 use Rattle.std.specs.Prelude.{◌==◌}
 use Rattle.std.specs.Str.{bytes_eq}
 use Rattle.asl_poly.specs.Poly.{HasWidth}
 use Rattle.asl_rules.specs.types.Types.{Ty}
 use Rattle.asl_rules.specs.types.Closed.{Assignment, type_with}
-use Rattle.asl_rules.specs.declarations.Scopes.{Storage, standing_of, Counted, Entry, Standing, Stored, Subprogram, TypeName, Label, next_atom, is_local}
+use Rattle.asl_rules.specs.declarations.Scopes.{Storage, standing_of, Counted, Entry, Standing, Stored, Subprogram, TypeName, Label, next_atom}
 use Rattle.asl_rules.specs.values.Values.{Value, int, has}
 use Rattle.asl_rules.specs.types.Views.{viewed}
 use Rattle.asl_rules.specs.runs.States.{Under, of_type, of_value, Binding, Core}
 use Rattle.asl_rules.specs.private.Belonging.{InType}
-use Rattle.asl_rules.specs.private.Agreement.{IsUnder, CountsAs, local_matches, FrameMatches, Agrees, SameOn, types_in, IsOuter}
+use Rattle.asl_rules.specs.private.Agreement.{IsUnder, CountsAs, local_matches, FrameMatches, Agrees, SameOn, types_in}
 use Rattle.asl_laws.proofs.widths.PresentNumbers.{CountedFixed}
 use Rattle.asl_rules.proofs.basics.Tests.{some_same, none_some}
 use Rattle.asl_rules.proofs.values.SameKind.{number_is}
@@ -61,17 +61,16 @@ each_behind : (A : ℕ → Type 0) (es fs : List Entry) → EachOver A (es ++ fs
 each_behind A [] fs g = g
 each_behind A (e ∷ es) fs g = each_behind A es fs g.1.1
 
-pub agrees_moved : (base : List Entry) (gv : Assignment) (names : List Entry) (a b : Assignment) (c : Core) → EachOver (Below names) names → SameOn names a b → Agrees base gv names a c → Agrees base gv names b c
-agrees_moved base gv names a b c g s k = record {
+pub agrees_moved : (base names : List Entry) (a b : Assignment) (c : Core) → EachOver (Below names) names → SameOn names a b → Agrees base names a c → Agrees base names b c
+agrees_moved base names a b c g s k = record {
   locals = k.locals;
   names_are = k.names_are;
   fresh = k.fresh;
   plain = k.plain;
-  frame = frame_moved (Below names) a b (λ n h. s n (inl h)) (types_in base) k.locals c.frame (each_behind (Below names) base k.locals (subst (λ ns. EachOver (Below names) ns) k.names_are g)) k.frame;
+  frame = frame_moved (Below names) a b s (types_in base) k.locals c.frame (each_behind (Below names) base k.locals (subst (λ ns. EachOver (Below names) ns) k.names_are g)) k.frame;
   globals = k.globals;
   handled = k.handled;
   callers = k.callers;
-  outside = λ n o. sym (s n (inr o)) ∙ k.outside n o;
 }
 
 -- ---- the next atom
@@ -85,42 +84,8 @@ extended_at m z a = ap (λ b. cond b z (a m)) (number_is m)
 other_number : (n m : ℕ) → n < m → (n == m) ≡ false
 other_number n m h = grind (arith, nat_tests)
 
--- it is even
-abbrev IsEven : ℕ → Type 0
-IsEven zero = Unit {0}
-IsEven (suc zero) = ⊥
-IsEven (suc (suc n)) = IsEven n
-
-next_even : (names : List Entry) → IsEven (next_atom names)
-next_even [] = tt
-next_even (e ∷ es) = by (is_local e.standing) (next_atom es) (next_even es)
-  where
-    by : (b : Bool) (n : ℕ) → IsEven n → IsEven (cond b (suc (suc n)) n)
-    by true n h = h
-    by false n h = h
-
--- so it is none of those of names outside bodies
-other_outer : (n m : ℕ) → IsOuter n → IsEven m → (n == m) ≡ false
-other_outer zero m o e = absurd o
-other_outer (suc zero) zero o e = refl
-other_outer (suc zero) (suc zero) o e = absurd e
-other_outer (suc zero) (suc (suc m)) o e = greater m
-  where
-    greater : (m : ℕ) → (1 == suc (suc m)) ≡ false
-    greater m = grind (arith, nat_tests)
-other_outer (suc (suc n)) zero o e = above n
-  where
-    above : (n : ℕ) → (suc (suc n) == 0) ≡ false
-    above n = grind (arith, nat_tests)
-other_outer (suc (suc n)) (suc zero) o e = absurd e
-other_outer (suc (suc n)) (suc (suc m)) o e = both_two n m (other_outer n m o e)
-  where
-    both_two : (n m : ℕ) → (n == m) ≡ false → (suc (suc n) == suc (suc m)) ≡ false
-    both_two n m h = grind (arith, nat_tests)
-
 pub extended_same : (names : List Entry) (z : ℤ) (a : Assignment) → SameOn names a (extended (next_atom names) z a)
-extended_same names z a n (inl h) = sym (ap (λ b. cond b z (a n)) (other_number n (next_atom names) h))
-extended_same names z a n (inr o) = sym (ap (λ b. cond b z (a n)) (other_outer n (next_atom names) o (next_even names)))
+extended_same names z a n h = sym (ap (λ b. cond b z (a n)) (other_number n (next_atom names) h))
 
 -- ---- what counts can't be assigned
 

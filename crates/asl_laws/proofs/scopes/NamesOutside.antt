@@ -12,8 +12,7 @@ use Rattle.asl_rules.proofs.widths.Counting.{stored_of}
 use Rattle.asl_laws.specs.Evaluated.{names_after}
 use Rattle.asl_laws.specs.ScopeRules.{NoneShadowed}
 use Rattle.asl_laws.proofs.scopes.OverScope.{NamesOver}
-use Rattle.asl_laws.proofs.scopes.ScopesOver.{AllClean, clean_at, clean_over, clean_atoms}
-use Rattle.asl_laws.proofs.scopes.NamesClean.{names_clean}
+use Rattle.asl_laws.proofs.scopes.ScopesOver.{AllClean, clean_at, clean_over, clean_atoms, names_clean}
 use Rattle.asl_laws.proofs.scopes.ScopeRules.{of_once}
 
 pub record NamesOutside (base : List Entry) : Type 0 where

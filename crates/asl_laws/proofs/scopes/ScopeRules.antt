@@ -31,8 +31,7 @@ use Rattle.asl_rules.specs.statements.Locals.{Initialised, initialised, initiali
 use Rattle.asl_rules.specs.statements.Branches.{index_type, with_index, with_caught}
 use Rattle.asl_rules.specs.statements.Stmts.{found_stmt}
 use Rattle.asl_rules.specs.declarations.Turns.{final, names_of_program}
-use Rattle.asl_rules.specs.declarations.Signatures.{Head, signatures, params_free, formals_free, param_written, param_entry, params_rule, formals_rule, result_rule, limit_typed, params_are_integers, limit_rule, with_formals, signature_rule, signatures_rule}
-use Rattle.asl_rules.specs.declarations.Environments.{funcs_of}
+use Rattle.asl_rules.specs.declarations.Programs.{Head, funcs_of, signatures, params_free, formals_free, param_written, param_entry, params_rule, formals_rule, result_rule, limit_typed, params_are_integers, limit_rule, with_formals, signature_rule, signatures_rule}
 use Rattle.asl_rules.proofs.basics.Inversions.{ok_ok, bind_ok, then_ok, need_ok, found_ok}
 use Rattle.asl_rules.proofs.basics.Tests.{no, some_same, some_none, none_some}
 use Rattle.asl_rules.proofs.scopes.EachOnce.{Once, turned}
@@ -43,7 +42,7 @@ use Rattle.asl_rules.proofs.widths.Counting.{stored_of}
 use Rattle.asl_rules.proofs.widths.ScopesCounted.{Fresh, fresh_start, fresh_more, tested, ended_names}
 use Rattle.asl_laws.specs.ScopeRules.{NoneShadowed, Never, StandingOver, CountedOver, EachOver, Below, SubsOver, KeepsRules, OutsideRules, AllBegin, TypesOwn}
 use Rattle.asl_laws.proofs.scopes.OverScope.{NamesOver, typed_over, written_over}
-use Rattle.asl_laws.proofs.scopes.NamesClean.{program_over}
+use Rattle.asl_laws.proofs.scopes.ScopesOver.{program_over}
 use Rattle.asl_laws.proofs.scopes.BodiesOver.{signature_over, signatures_over, bind_over, vars_over, index_over, caught_over}
 
 -- ---- no name is shadowed

@@ -14,8 +14,8 @@ use Rattle.asl_rules.specs.declarations.Scopes.{Scope, Body, Entry, Signature, f
 use Rattle.asl_rules.specs.statements.Branches.{index_type, with_index, with_caught}
 use Rattle.asl_rules.specs.statements.Acting.{Done, Listed, in_order}
 use Rattle.asl_rules.specs.statements.Stmts.{found_stmt}
+use Rattle.asl_rules.specs.declarations.Programs.{Head, signature_rule}
 use Rattle.asl_rules.specs.private.Worth.{WellCounted}
-use Rattle.asl_rules.specs.declarations.Signatures.{Head, signature_rule}
 use Rattle.asl_rules.proofs.basics.Inversions.{ok_ok, then_ok}
 use Rattle.asl_rules.proofs.widths.Counting.{well_kept, atom_counts}
 use Rattle.asl_rules.proofs.widths.ScopesCounted.{signature_counted, bind_counted, vars_counted, plain_counts}

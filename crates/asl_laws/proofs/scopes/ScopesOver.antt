@@ -1,25 +1,45 @@
 -- The scopes of a program: the types of names outside bodies have no atoms, and the types of the names of a body have atoms of names of that body alone. So a
 -- type is the same type for two assignments that agree on the atoms of its scope.
-use Rattle.std.proofs.Common.{◌≡◌, ℕ, suc, true, false, pos, List, [], ◌∷◌, Some, None, refl, sym, ap, ap₂, ◌∙◌, subst, inl}
+use Rattle.std.proofs.Common.{◌≡◌, ℕ, suc, Bool, true, false, pos, List, [], ◌∷◌, length, Option, Some, None, Ok, refl, sym, ap, ap₂, ◌∙◌, subst}
 use Rattle.std.specs.Prelude.{if◌then◌else◌, ◌+ℤ◌, ◌*ℤ◌, not}
+use Rattle.asl_syn.specs.declared.code.StaticCode.TheVariants.{S03, T04, T15}
+use Rattle.asl_syn.specs.declared.tree.Expr.{Expr}
+use Rattle.asl_syn.specs.declared.tree.TypeExpr.{TypeExpr}
+use Rattle.asl_syn.specs.declared.tree.Ident.{Ident}
+use Rattle.asl_syn.specs.declared.tree.Formal.{Formal}
+use Rattle.asl_syn.specs.declared.tree.TypeDef.{TypeDef}
+use Rattle.asl_syn.specs.declared.tree.TypeDef.TheVariants as td
+use Rattle.asl_syn.specs.declared.tree.StorageDecl.{StorageDecl}
+use Rattle.asl_syn.specs.declared.tree.Decl.{Decl}
+use Rattle.asl_syn.specs.declared.tree.Decl.TheVariants as dc
 use Rattle.asl_poly.specs.Terms.{Summand, Polynomial, value, product}
 use Rattle.asl_poly.specs.Fractions.{fraction_at}
 use Rattle.asl_cons.specs.declared.End.{End}
 use Rattle.asl_cons.specs.declared.End.TheVariants.{Int, Width}
 use Rattle.asl_cons.specs.declared.Part.{Part}
-use Rattle.asl_rules.specs.types.Types.{Ty, Fields, Parts, integer_of, boolean, bits_of, enumeration_of, record_of, exception_of, tuple_of, array_of, named, no_field, field, no_part, part, structure, kind}
-use Rattle.asl_rules.specs.types.Closed.{Assignment, Range, width_in, range_in, width_at, end_at, ranges_at, constraint_at, type_with, fields_with, parts_with}
+use Rattle.asl_rules.specs.Faults.{need, none_at, fault_of, fitted}
+use Rattle.asl_rules.specs.Tests.{Tests}
+use Rattle.asl_rules.specs.types.Types.{Ty, Fields, Parts, integer_of, boolean, bits_of, enumeration_of, record_of, exception_of, tuple_of, array_of, named, no_field, field, no_part, part, structure, kind, misfit}
+use Rattle.asl_rules.specs.types.Closed.{Assignment, Range, width_in, range_in, width_at, end_at, ranges_at, constraint_at, type_with, fields_with, parts_with, closed}
 use Rattle.asl_rules.specs.types.Closed as cl
-use Rattle.asl_rules.specs.declarations.Scopes.{Entry, Standing, Stored, Subprogram, TypeName, Label, next_atom, standing_of, is_local}
+use Rattle.asl_rules.specs.declarations.Scopes.{Entry, Standing, Stored, Subprogram, TypeName, Label, next_atom, subprogram, standing_of, is_local}
+use Rattle.asl_rules.specs.expressions.Exprs.{found, found_type, typed, written}
+use Rattle.asl_rules.specs.types.Written.{first_value}
+use Rattle.asl_rules.specs.declarations.Barred.{barred}
+use Rattle.asl_rules.specs.declarations.Declarations.{evaluated, with_type, Initial, fields_written, once, def_rule, supertype_rule, label_entries, storage_rule, unannotated, is_var, known, decl_rule, in_names}
+use Rattle.asl_rules.specs.declarations.Turns.{names_of_program}
 use Rattle.asl_rules.specs.private.Worth.{AllOf, AtomsOf}
 use Rattle.asl_rules.specs.private.WellFormed.{Fixed}
 use Rattle.asl_rules.specs.private.Agreement.{SameOn}
+use Rattle.asl_rules.proofs.basics.Inversions.{ok_ok, err_ok, bind_ok, then_ok}
 use Rattle.asl_rules.proofs.basics.Tests.{none_some}
+use Rattle.asl_rules.proofs.basics.Opening.{bounded_ok}
 use Rattle.asl_rules.proofs.widths.Counting.{stored_of}
 pub use Rattle.asl_laws.specs.ScopeRules.{Below}
-use Rattle.asl_laws.proofs.widths.TypesOver.{EndOver, PartsOver, Never, Over, FieldsOver, AllOver, over_any}
-use Rattle.asl_laws.proofs.scopes.OverScope.{StandingOver, CountedOver, EachOver, NamesOver}
-use Rattle.asl_rules.proofs.verdict.EachName.{EachName, name_has}
+use Rattle.asl_laws.proofs.widths.TypesOver.{EndOver, PartsOver, Never, Over, FieldsOver, AllOver, over_any, widened_over}
+use Rattle.asl_laws.proofs.scopes.OverScope.{StandingOver, CountedOver, EachOver, NamesOver, typed_over, written_over}
+use Rattle.asl_rules.proofs.verdict.EachName.{EachName, name_has, visible_have}
+use Rattle.asl_laws.specs.Evaluated.{names_after}
 
 -- ---- a type for assignments that agree on its atoms
 
@@ -99,7 +119,7 @@ fixed_never T h a = never_moved a (λ n. pos 0) T h
 
 -- a type of a scope is the same type where the atoms of the scope are the same
 pub type_same_on : (names : List Entry) (a b : Assignment) (T : Ty) → SameOn names a b → Over (Below names) T → type_with T a ≡ type_with T b
-type_same_on names a b T s h = type_moved (Below names) a b (λ n l. s n (inl l)) T h
+type_same_on names a b T s h = type_moved (Below names) a b s T h
 
 -- ---- names outside bodies
 
@@ -109,7 +129,7 @@ Clean Subprogram = Unit {0}
 Clean (TypeName T) = Over Never T
 Clean (Label T x) = Over Never T
 
-abbrev pub IsClean : Entry → Type 0
+abbrev IsClean : Entry → Type 0
 IsClean e = Clean e.standing
 
 abbrev pub AllClean : List Entry → Type 0
@@ -149,7 +169,7 @@ pub clean_atoms : (es : List Entry) → AllClean es → next_atom es ≡ 0
 clean_atoms [] c = refl
 clean_atoms (e ∷ es) c = ap (λ b. if b then suc (suc (next_atom es)) else next_atom es) (clean_local e.standing c.0) ∙ clean_atoms es c.1
 
-pub structure_over : (T : Ty) → Over Never T → Over Never (structure T)
+structure_over : (T : Ty) → Over Never T → Over Never (structure T)
 structure_over (named name supers T) h = structure_over T h
 structure_over (integer_of ps) h = h
 structure_over boolean h = tt
@@ -159,3 +179,81 @@ structure_over (record_of name fs) h = h
 structure_over (exception_of name fs) h = h
 structure_over (tuple_of ts) h = h
 structure_over (array_of n T) h = h
+
+module _ (t : Tests) where
+  fields_clean : (fs : List Formal) (names : List Entry) (Fs : Fields) → AllClean names → fields_written t fs (in_names names) ≡ Ok Fs → FieldsOver Fs
+  fields_clean [] names Fs c h = subst (λ z. FieldsOver z) (ok_ok no_field Fs h) tt
+  fields_clean (f ∷ fs) names Fs c h =
+      let u = bind_ok (written t f.ty true (in_names names)) _ Fs h in
+      let v = bind_ok (fields_written t fs (in_names names)) _ Fs u.then in
+      subst (λ z. FieldsOver z) (ok_ok (field f.name.text u.value.ty v.value) Fs v.then)
+      (written_over Never t f.ty true (in_names names) u.value (clean_over Never names c) u.first, fields_clean fs names v.value c v.first)
+
+  def_clean : (name : List ℕ) (def : TypeDef) (names : List Entry) (T : Ty) → AllClean names → def_rule t name def (in_names names) ≡ Ok T → Over Never T
+  def_clean name (td.Alias ty) names T c h =
+      let u = bind_ok (written t ty true (in_names names)) _ T h in
+      subst (Over Never) (ok_ok u.value.ty T u.then) (written_over Never t ty true (in_names names) u.value (clean_over Never names c) u.first)
+  def_clean name (td.Labels span is) names T c h = subst (Over Never) (ok_ok _ T h) tt
+  def_clean name (td.Record span fs) names T c h =
+      let u = bind_ok (fields_written t fs (in_names names)) _ T h in
+      let v = then_ok (need (once fs []) T15 span) _ T u.then in
+      subst (Over Never) (bounded_ok span (record_of name u.value) T v.then) (fields_clean fs names u.value c u.first)
+  def_clean name (td.Exception span fs) names T c h =
+      let u = bind_ok (fields_written t fs (in_names names)) _ T h in
+      let v = then_ok (need (once fs []) T15 span) _ T u.then in
+      subst (Over Never) (bounded_ok span (exception_of name u.value) T v.then) (fields_clean fs names u.value c u.first)
+
+  labels_clean : (def : TypeDef) (name : List ℕ) (T : Ty) → Over Never T → AllClean (label_entries def name T)
+  labels_clean (td.Alias ty) name T h = tt
+  labels_clean (td.Labels span is) name T h = each is
+    where
+      each : (is : List Ident) → AllClean (label_entries (td.Labels span is) name T)
+      each [] = tt
+      each (i ∷ is) = (h, each is)
+  labels_clean (td.Record span fs) name T h = tt
+  labels_clean (td.Exception span fs) name T h = tt
+
+  unannotated_over : (b : Bool) (T : Ty) → Over Never T → Over Never (unannotated b T)
+  unannotated_over true T h = widened_over Never T h
+  unannotated_over false T h = h
+
+  storage_clean : (d : StorageDecl) (b : Bool) (o : Option TypeExpr) (p : Option Expr) (names : List Entry) (s : Initial) → AllClean names → storage_rule t d b o p (in_names names) ≡ Ok s → Over Never s.ty
+  storage_clean d b None None names s c h = err_ok (fault_of S03 d.span) s h
+  storage_clean d b (Some ty) None names s c h =
+      let u = bind_ok (written t ty true (in_names names)) _ s h in
+      let v = bind_ok (evaluated (first_value t.limit (found_type t ty).span (closed u.value.ty))) _ s u.then in
+      subst (λ (z : Initial). Over Never z.ty) (ok_ok (with_type u.value.ty v.value) s v.then) (written_over Never t ty true (in_names names) u.value (clean_over Never names c) u.first)
+  storage_clean d b None (Some e) names s c h =
+      let n = then_ok (none_at T04 (barred e names)) _ s h in
+      let u = bind_ok (typed t e (in_names names)) _ s n.then in
+      let v = bind_ok (known t e (in_names names)) _ s u.then in
+      subst (λ (z : Initial). Over Never z.ty) (ok_ok _ s v.then) (unannotated_over b u.value.ty (typed_over Never t e (in_names names) u.value (clean_over Never names c) tt u.first))
+  storage_clean d b (Some ty) (Some e) names s c h =
+      let n = then_ok (none_at T04 (barred e names)) _ s h in
+      let w = bind_ok (written t ty true (in_names names)) _ s n.then in
+      let u = bind_ok (typed t e (in_names names)) _ s w.then in
+      let f = then_ok (fitted (misfit t u.value.ty w.value.ty) (found t e).span) _ s u.then in
+      let v = bind_ok (known t e (in_names names)) _ s f.then in
+      subst (λ (z : Initial). Over Never z.ty) (ok_ok _ s v.then) (written_over Never t ty true (in_names names) w.value (clean_over Never names c) w.first)
+
+  decl_clean : (d : Decl) (names : List Entry) (es : List Entry) → AllClean names → decl_rule t d (in_names names) ≡ Ok es → AllClean es
+  decl_clean (dc.Type d) names es c h =
+      let u = bind_ok (def_rule t d.name.text d.def (in_names names)) _ es h in
+      let v = bind_ok (supertype_rule t d.supertype u.value (in_names names)) _ es u.then in
+      let k : Over Never (structure u.value) = structure_over u.value (def_clean d.name.text d.def names u.value c u.first) in
+      subst (λ z. AllClean z) (ok_ok _ es v.then) (k, labels_clean d.def d.name.text (named d.name.text v.value (structure u.value)) k)
+  decl_clean (dc.Storage d) names es c h =
+      let u = bind_ok (storage_rule t d (is_var d.kind) d.ty d.init (in_names names)) _ es h in
+      subst (λ z. AllClean z) (ok_ok _ es u.then) ((refl, (refl, storage_clean d (is_var d.kind) d.ty d.init names u.value c u.first)), tt)
+  decl_clean (dc.Func f) names es c h = subst (λ z. AllClean z) (ok_ok (subprogram f.name.text ∷ []) es h) (tt, tt)
+
+  pub names_clean : (n : ℕ) (ds : List Decl) → AllClean (names_after t n ds)
+  names_clean n ds = visible_have IsClean (λ m. tt) t ds (λ d i. (refl, (refl, tt))) (λ d i names c es h. decl_clean d names es c h) n
+
+  -- the names after so many turns have no atoms
+  pub turns_over : (A : ℕ → Type 0) (n : ℕ) (ds : List Decl) → NamesOver A (names_after t n ds)
+  turns_over A n ds = clean_over A (names_after t n ds) (names_clean n ds)
+
+  -- so those that are visible in all bodies have none
+  pub program_over : (A : ℕ → Type 0) (ds : List Decl) → NamesOver A (names_of_program t ds)
+  program_over A ds = turns_over A (length ds) ds

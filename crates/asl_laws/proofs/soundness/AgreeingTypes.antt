@@ -17,8 +17,7 @@ use Rattle.asl_rules.specs.expressions.Exprs.{written}
 use Rattle.asl_rules.specs.statements.Locals.{itself}
 use Rattle.asl_rules.specs.declarations.Declarations.{in_names}
 use Rattle.asl_rules.specs.declarations.Turns.{names_of_program}
-use Rattle.asl_rules.specs.declarations.Signatures.{Head, signatures, params_free, formals_free, type_or_itself, param_entry, param_written, params_rule, formals_rule, result_rule, limit_typed, params_are_integers, limit_rule, with_formals, signature_rule, signatures_rule}
-use Rattle.asl_rules.specs.declarations.Environments.{funcs_of}
+use Rattle.asl_rules.specs.declarations.Programs.{Head, funcs_of, signatures, params_free, formals_free, type_or_itself, param_entry, param_written, params_rule, formals_rule, result_rule, limit_typed, params_are_integers, limit_rule, with_formals, signature_rule, signatures_rule}
 use Rattle.asl_rules.specs.private.Agreement.{types_in}
 use Rattle.asl_rules.specs.private.Grown.{AreGrown}
 use Rattle.asl_rules.specs.private.WellFormed.{WellFormed, WellDeclared, ShapedParts}
@@ -30,11 +29,12 @@ use Rattle.asl_laws.specs.AgreeingTypes.{NamesFormed, MaybeFormed, ResultsFormed
 use Rattle.asl_laws.specs.Evaluated.{names_after}
 use Rattle.asl_laws.proofs.scopes.FormedScopes.{added, itself_held}
 use Rattle.asl_laws.proofs.scopes.HeldRules.{only_ends}
-use Rattle.asl_laws.proofs.scopes.Globals.{grown_labels, names_good, turn_named}
+use Rattle.asl_laws.proofs.scopes.Globals.{AllBelong, grown_labels, names_good, turn_named}
 use Rattle.asl_laws.proofs.scopes.GrownTexts.{judged_grown}
 use Rattle.asl_laws.proofs.scopes.WellTyped.{integer_formed, written_in_formed, good_formed}
-use Rattle.asl_laws.proofs.names.BodiesAt.{bodies_at}
-use Rattle.asl_laws.proofs.soundness.SoundTurns.{turns_belong}
+use Rattle.asl_laws.proofs.soundness.GivenTypes.{belong_by_forms}
+use Rattle.asl_laws.proofs.soundness.Soundness.{others_of}
+use Rattle.asl_laws.proofs.soundness.SoundnessEnds.{no_calls, no_procedures}
 
 -- ---- signatures
 
@@ -134,7 +134,8 @@ declarations_agree : (t : Tests) → IsRight t → (ds : List Decl) → AreGrown
 declarations_agree t right ds grown apart =
     let distinct : Distinct (all_declared ds) = distinct_of (all_declared ds) [] apart in
     let labels = grown_labels ds grown in
-    let belong = turns_belong t right ds (bodies_at t ds) in
+    let belong : AllBelong t ds = belong_by_forms t right ds
+    (λ b w. (no_calls t right ds b w, others_of t right ds b [] true [] w (no_procedures t right ds b w))) in
     let base = names_of_program t ds in
     let all : NamesAgree base = names_agree base (names_good t right ds distinct labels belong) in
     record {

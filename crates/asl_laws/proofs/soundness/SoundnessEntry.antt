@@ -97,11 +97,11 @@ word_belongs d n (part T no_part) bs h e =
 
 -- ---- calls
 
-module _ (a : Accepted) (id : ℕ) (globals : List Binding) (m : GlobalsMatch a.names no_atoms globals) where
+module _ (a : Accepted) (id : ℕ) (globals : List Binding) (m : GlobalsMatch a.names globals) where
   at_place : (g : Signature → Bool) (r : First g 0 a.signatures id) → slice_get a.signatures id ≡ Some r.signature
   at_place g r = ap (λ n. slice_get a.signatures n) (r.id_is ∙ zero_on r.place) ∙ r.stands
 
-  pub main_call : entry_from is_main 0 a.signatures ≡ Some id → IsCall a no_atoms id [] globals
+  pub main_call : entry_from is_main 0 a.signatures ≡ Some id → IsCall a id [] globals
   main_call first =
       let r = first_of is_main 0 a.signatures id first in
       let s = r.signature in
@@ -114,7 +114,7 @@ module _ (a : Accepted) (id : ℕ) (globals : List Binding) (m : GlobalsMatch a.
   pub record WordCall (bs : List Bool) : Type 0 where
     pub signature : Signature
     pub stands : slice_get a.signatures id ≡ Some signature
-    pub call : IsCall a no_atoms id (word_for signature.formals bs ∷ []) globals
+    pub call : IsCall a id (word_for signature.formals bs ∷ []) globals
 
   pub word_call : (name : List ℕ) (n : ℕ) → entry_from (takes_word name n) 0 a.signatures ≡ Some id → (bs : List Bool) → length bs ≡ n →
       WordCall bs

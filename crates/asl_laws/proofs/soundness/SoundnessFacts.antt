@@ -10,9 +10,7 @@ use Rattle.asl_rules.specs.declarations.Uses.{cycles_rule}
 use Rattle.asl_rules.specs.declarations.Scopes.{Entry, Signature}
 use Rattle.asl_rules.specs.runs.Trees.{TreeFunc}
 use Rattle.asl_rules.specs.declarations.Turns.{names_of_program, globals_rule}
-use Rattle.asl_rules.specs.declarations.Programs.{Entries, entry_rule, verdict, Accepted, accepted}
-use Rattle.asl_rules.specs.declarations.Environments.{funcs_of}
-use Rattle.asl_rules.specs.declarations.Signatures.{Head, params_free, formals_free, params_rule, formals_rule, result_rule, limit_typed, params_are_integers, limit_rule, signature_rule, signatures_rule, signatures, overloads_rule, body_rule, bodies_rule}
+use Rattle.asl_rules.specs.declarations.Programs.{Entries, funcs_of, Head, params_free, formals_free, params_rule, formals_rule, result_rule, limit_typed, params_are_integers, limit_rule, signature_rule, signatures_rule, signatures, overloads_rule, body_rule, bodies_rule, entry_rule, verdict, Accepted, accepted}
 use Rattle.asl_rules.proofs.basics.Inversions.{ok_ok, bind_ok, then_ok}
 use Rattle.asl_rules.proofs.basics.Tests.{some_same, none_some}
 use Rattle.asl_laws.proofs.scopes.Globals.{names_same}

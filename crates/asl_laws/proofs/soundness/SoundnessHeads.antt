@@ -9,7 +9,7 @@ use Rattle.asl_rules.specs.types.Types.{Ty, only_width}
 use Rattle.asl_rules.specs.declarations.Scopes.{Entry, Param, next_atom}
 use Rattle.asl_rules.specs.expressions.Exprs.{written}
 use Rattle.asl_rules.specs.declarations.Declarations.{in_names}
-use Rattle.asl_rules.specs.declarations.Signatures.{Head, params_free, formals_free, type_or_itself, param_entry, param_written, params_rule, formals_rule, result_rule, limit_typed, params_are_integers, limit_rule, signature_rule, signatures_rule, signatures}
+use Rattle.asl_rules.specs.declarations.Programs.{Head, params_free, formals_free, type_or_itself, param_entry, param_written, params_rule, formals_rule, result_rule, limit_typed, params_are_integers, limit_rule, signature_rule, signatures_rule, signatures}
 use Rattle.asl_rules.specs.private.WellFormed.{WellFormed, WellDeclared}
 use Rattle.asl_rules.proofs.basics.Inversions.{ok_ok, bind_ok, then_ok}
 use Rattle.asl_rules.proofs.widths.Counting.{standing_back}

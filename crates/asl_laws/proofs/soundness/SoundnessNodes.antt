@@ -11,7 +11,7 @@ use Rattle.asl_rules.specs.declarations.Scopes.{Entry, Signature, with_class}
 use Rattle.asl_rules.specs.expressions.Typing.{Typed}
 use Rattle.asl_rules.specs.runs.Trees.{TreeFunc, Tree, Act}
 use Rattle.asl_rules.specs.expressions.Exprs.{typed}
-use Rattle.asl_rules.specs.declarations.Programs.{Entries, Accepted, accepted}
+use Rattle.asl_rules.specs.declarations.Programs.{Environment, Entries, Accepted, accepted}
 use Rattle.asl_rules.specs.runs.States.{Binding, Core, resting, Frame}
 use Rattle.asl_rules.specs.private.Belonging.{Sound}
 use Rattle.asl_rules.specs.private.Agreement.{types_in, GlobalsMatch, Agrees}
@@ -35,8 +35,6 @@ use Rattle.asl_laws.proofs.widths.WidthValues.{width_gives, number_gives}
 use Rattle.asl_laws.proofs.soundness.SoundnessStates.{agrees_sound}
 use Rattle.asl_laws.proofs.calls.OwnCalls.{restored_agrees}
 use Rattle.asl_rules.specs.declared.effect.Effect.{Effect}
-use Rattle.asl_rules.specs.declarations.Environments.{Environment}
-use Rattle.asl_rules.specs.types.Closed.{Assignment}
 use Rattle.asl_laws.proofs.widths.WidthValues.{width_gives, number_gives}
 
 abbrev HasFrame : List Frame → Type 0
@@ -44,30 +42,30 @@ HasFrame [] = ⊥
 HasFrame (f ∷ fs) = Unit {0}
 
 -- what holds at a node
-abbrev pub AtNode : Tests → Environment → Accepted → Assignment → Entered Expr Stmt → Core → Type 0
-AtNode t env a gv n c = Sound c × NodeVisited t env a gv n c × CallersWait t env a gv c.globals c.callers c.live
+abbrev pub AtNode : Tests → Environment → Accepted → Entered Expr Stmt → Core → Type 0
+AtNode t env a n c = Sound c × NodeVisited t env a n c × CallersWait t env a c.globals c.callers c.live
 
-module _ (tests : Tests) (right : IsRight tests) (ds : List Decl) (base : List Entry) (gv : Assignment) (asked : Entered_by) (main : Entries) (subs : List Signature) (funcs : List TreeFunc) (w : WellNamed base) (s : FormedSubs tests right (types_in base) (well_declared base w) subs) where
+module _ (tests : Tests) (right : IsRight tests) (ds : List Decl) (base : List Entry) (asked : Entered_by) (main : Entries) (subs : List Signature) (funcs : List TreeFunc) (w : WellNamed base) (s : FormedSubs tests right (types_in base) (well_declared base w) subs) where
   abbrev whole : Accepted
   whole = accepted asked main subs funcs base
 
-  bound : {P : Type 0} → Bound tests base gv subs false P → P
+  bound : {P : Type 0} → Bound tests base subs false P → P
   bound (inl e) = no e
   bound (inr p) = p
 
-  module _ (o : Others tests right ds base gv subs true funcs w s) (q : OtherStmts tests right ds base gv subs true funcs w) where
+  module _ (o : Others tests right ds base subs true funcs w s) (q : OtherStmts tests right ds base subs true funcs w) where
     -- ---- values
 
-    anywhere : (H : Here) (c : Core) → Agrees base gv H.scope.names H.present c → H.scope.subs ≡ subs → around_of c ≡ H.around → At tests base gv subs true H c
+    anywhere : (H : Here) (c : Core) → Agrees base H.scope.names H.present c → H.scope.subs ≡ subs → around_of c ≡ H.around → At tests base subs true H c
     anywhere H c a i e = record { agrees = a; subs_are = i; around_is = e; stands = inl refl; counted = inl refl }
 
-    gives : (H : Here) (S : Typed) (e : Expr) (c : Core) → typed tests e H.scope ≡ Ok S → Agrees base gv H.scope.names H.present c → H.scope.subs ≡ subs → around_of c ≡ H.around → ValuesIn (over_names tests ds base) whole gv e H.scope H.present S.ty c
-    gives H S e c t a i r d h = typed_run tests right ds base gv subs true funcs w s o q d e H S c h t (record { agrees = a; subs_are = i; around_is = r; stands = inl refl; counted = inl refl })
+    gives : (H : Here) (S : Typed) (e : Expr) (c : Core) → typed tests e H.scope ≡ Ok S → Agrees base H.scope.names H.present c → H.scope.subs ≡ subs → around_of c ≡ H.around → ValuesIn (over_names tests ds base) whole e H.scope H.present S.ty c
+    gives H S e c t a i r d h = typed_run tests right ds base subs true funcs w s o q d e H S c h t (record { agrees = a; subs_are = i; around_is = r; stands = inl refl; counted = inl refl })
 
     -- ---- callers
 
-    caller_waits : (globals : List Binding) (f : Frame) (fs : List Frame) (id : ℕ) (ids : List ℕ) (u : Caller) → IsCaller tests base gv subs false u id → Agrees base gv (caller_at u).scope.names (caller_at u).present (waiting globals f fs ids) → (caller_at u).scope.subs ≡ subs → around_of (waiting globals f fs ids) ≡ (caller_at u).around →
-        StandsIn subs (caller_at u).scope.class ids → Ruled (caller_at u).scope.names (caller_at u).scope.subs → ExprWaits tests (over_names tests ds base) whole gv id (waiting globals f fs ids) ⊎ StmtWaits tests whole gv id (waiting globals f fs ids)
+    caller_waits : (globals : List Binding) (f : Frame) (fs : List Frame) (id : ℕ) (ids : List ℕ) (u : Caller) → IsCaller tests base subs false u id → Agrees base (caller_at u).scope.names (caller_at u).present (waiting globals f fs ids) → (caller_at u).scope.subs ≡ subs → around_of (waiting globals f fs ids) ≡ (caller_at u).around →
+        StandsIn subs (caller_at u).scope.class ids → Ruled (caller_at u).scope.names (caller_at u).scope.subs → ExprWaits tests (over_names tests ds base) whole id (waiting globals f fs ids) ⊎ StmtWaits tests whole id (waiting globals f fs ids)
     caller_waits globals f fs id ids (by_expr H e S) k a i r n g = inl (record {
       node = e;
       visited = record { scope = H.scope; present = H.present; subs_are = i; stands = n; counted = g.counted; rules = keeps_rules H.scope g; judged = inl (S, k.0, gives H S e (waiting globals f fs ids) k.0 a i r); agrees = a };
@@ -81,29 +79,29 @@ module _ (tests : Tests) (right : IsRight tests) (ds : List Decl) (base : List E
       calls = k.1;
     })
 
-    all_wait : (globals : List Binding) (k : Effect) (fs : List Frame) (ids : List ℕ) → GlobalsMatch base gv globals → StandsOver tests base gv subs false k fs ids → StandsIn subs k ids × CallersWait tests (over_names tests ds base) whole gv globals fs ids
+    all_wait : (globals : List Binding) (k : Effect) (fs : List Frame) (ids : List ℕ) → GlobalsMatch base globals → StandsOver tests base subs false k fs ids → StandsIn subs k ids × CallersWait tests (over_names tests ds base) whole globals fs ids
     unfolding bound
     all_wait globals k [] ids m n = absurd n
     all_wait globals k (f ∷ fs) [] m n = absurd n
     all_wait globals k (f ∷ []) (id ∷ ids) m n = (n.0, by n.1)
       where
-        by : IsOutermost f [] ids ⊎ ((q : Waiting tests base gv subs false f [] id ids) × Bound tests base gv subs false (StandsOver tests base gv subs false (caller_at q.caller).scope.class [] ids)) → (f ≡ record { names = []; handled = [] }) × (ids ≡ [])
+        by : IsOutermost f [] ids ⊎ ((q : Waiting tests base subs false f [] id ids) × Bound tests base subs false (StandsOver tests base subs false (caller_at q.caller).scope.class [] ids)) → (f ≡ record { names = []; handled = [] }) × (ids ≡ [])
         by (inl e) = (e.0, e.2)
         by (inr v) = absurd (bound v.1)
     all_wait globals k (f ∷ g ∷ fs) (id ∷ ids) m n = (n.0, by n.1 (λ l i. all_wait globals l (g ∷ fs) ids m i))
       where
-        by : IsOutermost f (g ∷ fs) ids ⊎ ((q : Waiting tests base gv subs false f (g ∷ fs) id ids) × Bound tests base gv subs false (StandsOver tests base gv subs false (caller_at q.caller).scope.class (g ∷ fs) ids)) →
-            ((l : Effect) → StandsOver tests base gv subs false l (g ∷ fs) ids → StandsIn subs l ids × CallersWait tests (over_names tests ds base) whole gv globals (g ∷ fs) ids) → CallersWait tests (over_names tests ds base) whole gv globals (f ∷ g ∷ fs) (id ∷ ids)
+        by : IsOutermost f (g ∷ fs) ids ⊎ ((q : Waiting tests base subs false f (g ∷ fs) id ids) × Bound tests base subs false (StandsOver tests base subs false (caller_at q.caller).scope.class (g ∷ fs) ids)) →
+            ((l : Effect) → StandsOver tests base subs false l (g ∷ fs) ids → StandsIn subs l ids × CallersWait tests (over_names tests ds base) whole globals (g ∷ fs) ids) → CallersWait tests (over_names tests ds base) whole globals (f ∷ g ∷ fs) (id ∷ ids)
         by (inl e) next = absurd (subst HasFrame e.1 tt)
         by (inr v) next =
             let H = caller_at v.0.caller in
             let more = next H.scope.class (bound v.1) in
-            (caller_waits globals f (g ∷ fs) id ids v.0.caller v.0.is_caller (restored_agrees base gv H.scope.names H.present (waiting v.0.globals f (g ∷ fs) ids) (resting globals) v.0.agrees m) v.0.subs_are v.0.around_is more.0 (bound v.0.counted), more.1)
+            (caller_waits globals f (g ∷ fs) id ids v.0.caller v.0.is_caller (restored_agrees base H.scope.names H.present (waiting v.0.globals f (g ∷ fs) ids) (resting globals) v.0.agrees m) v.0.subs_are v.0.around_is more.0 (bound v.0.counted), more.1)
 
     -- ---- nodes
 
-    stands_at : (H : Here) (c : Core) → At tests base gv subs false H c → StandsIn subs H.scope.class c.live × CallersWait tests (over_names tests ds base) whole gv c.globals c.callers c.live
-    stands_at H c a = all_wait c.globals H.scope.class c.callers c.live a.agrees.globals (bound (subst (λ (r : Around). Stands tests base gv subs false H.scope.class r) (sym a.around_is) a.stands))
+    stands_at : (H : Here) (c : Core) → At tests base subs false H c → StandsIn subs H.scope.class c.live × CallersWait tests (over_names tests ds base) whole c.globals c.callers c.live
+    stands_at H c a = all_wait c.globals H.scope.class c.callers c.live a.agrees.globals (bound (subst (λ (r : Around). Stands tests base subs false H.scope.class r) (sym a.around_is) a.stands))
 
     -- the scope in which it was judged
     abbrev pub asked_in : Here → Asked → Here
@@ -118,7 +116,7 @@ module _ (tests : Tests) (right : IsRight tests) (ds : List Decl) (base : List E
     lesser_stands H [] n = n
     lesser_stands H (id ∷ ids) n = (n.0, n.1, refl)
 
-    pub expr_stands : (H : Here) (i : Asked) (e : Expr) (t : Tree) (c : Core) → ExprIn tests base gv subs false H i e t c → StandsIn subs (asked_in H i).scope.class c.live
+    pub expr_stands : (H : Here) (i : Asked) (e : Expr) (t : Tree) (c : Core) → ExprIn tests base subs false H i e t c → StandsIn subs (asked_in H i).scope.class c.live
     expr_stands H (of_type S) e t c p = (stands_at H c p.at).0
     expr_stands H (of_pure S) e t c p = lesser_stands H c.live (stands_at H c p.at).0
     expr_stands H (of_width W) e t c p = (stands_at H c p.at).0
@@ -126,17 +124,17 @@ module _ (tests : Tests) (right : IsRight tests) (ds : List Decl) (base : List E
     expr_stands H (of_known S W) e t c p = (stands_at H c p.at).0
     expr_stands H (of_divisor span k) e t c p = (stands_at H c p.at).0
 
-    pub body_stands : (j : StmtClaim) (x : Stmt) (t : Act) (c : Core) → StmtIn tests base gv subs false j x t c → IsBodyOf subs j.body c.live
+    pub body_stands : (j : StmtClaim) (x : Stmt) (t : Act) (c : Core) → StmtIn tests base subs false j x t c → IsBodyOf subs j.body c.live
     unfolding bound
     body_stands j x t c p = subst (λ (r : Around). IsBodyOf subs j.body r.live) (sym p.at.around_is) (bound p.body_is)
 
-    expr_judged : (H : Here) (i : Asked) (e : Expr) (t : Tree) (c : Core) → ExprIn tests base gv subs false H i e t c → IsJudged tests (over_names tests ds base) whole gv e (asked_in H i).scope H.present c
+    expr_judged : (H : Here) (i : Asked) (e : Expr) (t : Tree) (c : Core) → ExprIn tests base subs false H i e t c → IsJudged tests (over_names tests ds base) whole e (asked_in H i).scope H.present c
     expr_judged H (of_type S) e t c p = inl (S, p.answers, gives H S e c p.answers p.at.agrees p.at.subs_are p.at.around_is)
     expr_judged H (of_pure S) e t c p = inl (S, p.answers, gives (asked_in H (of_pure S)) S e c p.answers p.at.agrees p.at.subs_are p.at.around_is)
     expr_judged H (of_width W) e t c p =
-        inr (inl (W, p.answers, λ d h. width_gives tests right ds base gv subs funcs w d e H.scope W H.present c h p.answers p.at.agrees))
+        inr (inl (W, p.answers, λ d h. width_gives tests right ds base subs funcs w d e H.scope W H.present c h p.answers p.at.agrees))
     expr_judged H (of_number N) e t c p =
-        inr (inr (N, p.answers, λ d h. number_gives tests right ds base gv subs funcs w d e H.scope N H.present c h p.answers p.at.agrees))
+        inr (inr (N, p.answers, λ d h. number_gives tests right ds base subs funcs w d e H.scope N H.present c h p.answers p.at.agrees))
     expr_judged H (of_known S W) e t c p = inl (S, p.answers.0, gives H S e c p.answers.0 p.at.agrees p.at.subs_are p.at.around_is)
     expr_judged H (of_divisor span k) e t c p =
         let i = is_written tests e k p.answers.0 in
@@ -168,7 +166,7 @@ module _ (tests : Tests) (right : IsRight tests) (ds : List Decl) (base : List E
     asked_rules H (of_known S W) r = keeps_rules H.scope r
     asked_rules H (of_divisor span k) r = keeps_rules H.scope r
 
-    expr_visited : (H : Here) (i : Asked) (e : Expr) (t : Tree) (c : Core) → ExprIn tests base gv subs false H i e t c → ExprVisited tests (over_names tests ds base) whole gv e c
+    expr_visited : (H : Here) (i : Asked) (e : Expr) (t : Tree) (c : Core) → ExprIn tests base subs false H i e t c → ExprVisited tests (over_names tests ds base) whole e c
     expr_visited H i e t c p = record {
       scope = (asked_in H i).scope;
       present = H.present;
@@ -177,16 +175,16 @@ module _ (tests : Tests) (right : IsRight tests) (ds : List Decl) (base : List E
       counted = subst WellCounted (sym (asked_names H i)) (bound p.at.counted).counted;
       rules = asked_rules H i (bound p.at.counted);
       judged = expr_judged H i e t c p;
-      agrees = subst (λ ns. Agrees base gv ns H.present c) (sym (asked_names H i)) p.at.agrees;
+      agrees = subst (λ ns. Agrees base ns H.present c) (sym (asked_names H i)) p.at.agrees;
     }
 
-    at_expr : (H : Here) (i : Asked) (e : Expr) (t : Tree) (c : Core) → ExprIn tests base gv subs false H i e t c → AtNode tests (over_names tests ds base) whole gv (AtExpr e) c
-    at_expr H i e t c p = (agrees_sound base gv H.scope.names H.present c p.at.agrees, expr_visited H i e t c p, (stands_at H c p.at).1)
+    at_expr : (H : Here) (i : Asked) (e : Expr) (t : Tree) (c : Core) → ExprIn tests base subs false H i e t c → AtNode tests (over_names tests ds base) whole (AtExpr e) c
+    at_expr H i e t c p = (agrees_sound base H.scope.names H.present c p.at.agrees, expr_visited H i e t c p, (stands_at H c p.at).1)
 
-    at_stmt : (j : StmtClaim) (x : Stmt) (t : Act) (c : Core) → StmtIn tests base gv subs false j x t c → AtNode tests (over_names tests ds base) whole gv (AtStmt x) c
+    at_stmt : (j : StmtClaim) (x : Stmt) (t : Act) (c : Core) → StmtIn tests base subs false j x t c → AtNode tests (over_names tests ds base) whole (AtStmt x) c
     unfolding bound
     at_stmt j x t c p = (
-      agrees_sound base gv j.body.scope.names j.present c p.at.agrees,
+      agrees_sound base j.body.scope.names j.present c p.at.agrees,
       record {
         body = j.body;
         done = j.done;
@@ -201,10 +199,10 @@ module _ (tests : Tests) (right : IsRight tests) (ds : List Decl) (base : List E
       (stands_at (record { scope = j.body.scope; present = j.present; around = j.around }) c p.at).1,
     )
 
-    pub at_exprs : (i : Several (Here × Asked)) (e : Expr) (t : Tree) (c : Core) → expr_enters (our_each tests base gv subs false) i e t c → AtNode tests (over_names tests ds base) whole gv (AtExpr e) c
+    pub at_exprs : (i : Several (Here × Asked)) (e : Expr) (t : Tree) (c : Core) → expr_enters (our_each tests base subs false) i e t c → AtNode tests (over_names tests ds base) whole (AtExpr e) c
     at_exprs (one i) e t c p = at_expr i.0 i.1 e t c p
     at_exprs (two i j) e t c p = at_exprs i e t c p.0
 
-    pub at_stmts : (j : Several (StmtClaim × Bool)) (x : Stmt) (t : Act) (c : Core) → stmt_enters (our_each tests base gv subs false) j x t c → AtNode tests (over_names tests ds base) whole gv (AtStmt x) c
+    pub at_stmts : (j : Several (StmtClaim × Bool)) (x : Stmt) (t : Act) (c : Core) → stmt_enters (our_each tests base subs false) j x t c → AtNode tests (over_names tests ds base) whole (AtStmt x) c
     at_stmts (one j) x t c p = at_stmt j.0 x t c p.0
     at_stmts (two i j) x t c p = at_stmts i x t c p.0

@@ -33,25 +33,25 @@ frame_belongs d a [] (b ∷ bs) m = absurd m
 frame_belongs d a (e ∷ es) [] m = absurd m
 frame_belongs d a (e ∷ es) (b ∷ bs) m = (local_belongs d a e.name e.standing b m.0, frame_belongs d a es bs m.1)
 
-globals_by : (d : List ℕ → Option Ty) (gv : Assignment) (n : List ℕ) (st : Standing) (es : List Entry) (bs : List Binding) → global_matches d gv n st bs (AllMatch d gv es) → ((cs : List Binding) → AllMatch d gv es cs → AllBelong cs) → AllBelong bs
-globals_by d gv n Subprogram es bs m next = next bs m
-globals_by d gv n (TypeName T) es bs m next = next bs m
-globals_by d gv n (Label T x) es bs m next = next bs m
-globals_by d gv n (Stored s) es [] m next = absurd m
-globals_by d gv n (Stored s) es (b ∷ bs) m next = (kept_as_is d _ b.under s.ty b.value m.0.holds.under_is m.0.holds.belongs, next bs m.1)
+globals_by : (d : List ℕ → Option Ty) (n : List ℕ) (st : Standing) (es : List Entry) (bs : List Binding) → global_matches d n st bs (AllMatch d es) → ((cs : List Binding) → AllMatch d es cs → AllBelong cs) → AllBelong bs
+globals_by d n Subprogram es bs m next = next bs m
+globals_by d n (TypeName T) es bs m next = next bs m
+globals_by d n (Label T x) es bs m next = next bs m
+globals_by d n (Stored s) es [] m next = absurd m
+globals_by d n (Stored s) es (b ∷ bs) m next = (kept_as_is d _ b.under s.ty b.value m.0.holds.under_is m.0.holds.belongs, next bs m.1)
 
-globals_belong : (d : List ℕ → Option Ty) (gv : Assignment) (es : List Entry) (bs : List Binding) → AllMatch d gv es bs → AllBelong bs
-globals_belong d gv [] [] m = tt
-globals_belong d gv [] (b ∷ bs) m = absurd m
-globals_belong d gv (e ∷ es) bs m = globals_by d gv e.name e.standing es bs m (globals_belong d gv es)
+globals_belong : (d : List ℕ → Option Ty) (es : List Entry) (bs : List Binding) → AllMatch d es bs → AllBelong bs
+globals_belong d [] [] m = tt
+globals_belong d [] (b ∷ bs) m = absurd m
+globals_belong d (e ∷ es) bs m = globals_by d e.name e.standing es bs m (globals_belong d es)
 
-callers_belong : (base : List Entry) (gv : Assignment) (fs : List Frame) → AllWait base gv fs → AllFramesBelong fs
-callers_belong base gv [] m = tt
-callers_belong base gv (f ∷ fs) m = (frame_belongs (types_in base) m.0.present m.0.locals f.names m.0.frame, callers_belong base gv fs m.1)
+callers_belong : (base : List Entry) (fs : List Frame) → AllWait base fs → AllFramesBelong fs
+callers_belong base [] m = tt
+callers_belong base (f ∷ fs) m = (frame_belongs (types_in base) m.0.present m.0.locals f.names m.0.frame, callers_belong base fs m.1)
 
-pub agrees_sound : (base : List Entry) (gv : Assignment) (names : List Entry) (a : Assignment) (c : Core) → Agrees base gv names a c → Sound c
-agrees_sound base gv names a c k = record {
-  globals = globals_belong (types_in base) gv base c.globals k.globals;
+pub agrees_sound : (base names : List Entry) (a : Assignment) (c : Core) → Agrees base names a c → Sound c
+agrees_sound base names a c k = record {
+  globals = globals_belong (types_in base) base c.globals k.globals;
   frame = frame_belongs (types_in base) a k.locals c.frame k.frame;
-  callers = callers_belong base gv c.callers k.callers;
+  callers = callers_belong base c.callers k.callers;
 }

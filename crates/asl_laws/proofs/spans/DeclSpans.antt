@@ -24,9 +24,7 @@ use Rattle.asl_rules.specs.declarations.Uses.{cycles_rule}
 use Rattle.asl_rules.specs.statements.Acting.{in_order}
 use Rattle.asl_rules.specs.statements.Stmts.{found_stmt}
 use Rattle.asl_rules.specs.declarations.Declarations.{fields_written, def_rule, supertype_rule, type_decl_rule}
-use Rattle.asl_rules.specs.declarations.Signatures.{params_free, formals_free, param_written, params_rule, formals_rule, result_rule, type_is_integer, params_are_integers, Head, overloads_rule, body_rule, bodies_rule, body_of}
-use Rattle.asl_rules.specs.declarations.Environments.{origin}
-use Rattle.asl_rules.specs.declarations.Programs.{entry_from, entry_found, entry16_rule, entry_rule, is_decode, main_rule}
+use Rattle.asl_rules.specs.declarations.Programs.{params_free, formals_free, param_written, params_rule, formals_rule, result_rule, type_is_integer, params_are_integers, Head, overloads_rule, body_rule, bodies_rule, body_of, origin, entry_from, entry_found, entry16_rule, entry_rule, is_decode, main_rule}
 use Rattle.asl_laws.proofs.basics.Lists.{AllOf}
 use Rattle.asl_laws.specs.Spans.{Each, all_of, maybe, of_name, of_names, type_spans, stmt_spans, formal_spans, param_spans, def_spans, decl_spans}
 use Rattle.asl_laws.proofs.spans.SpanLayers.{all_there}
@@ -75,7 +73,7 @@ module _ (t : Tests) (P : Fault → Type 0) where
   cycles_stand all [] h = tt
   cycles_stand all (dc.Type d ∷ ds) h = search (steps, cycles_stand all ds h.1)
   cycles_stand all (dc.Storage d ∷ ds) h = search (steps, cycles_stand all ds h.1)
-  cycles_stand all (dc.Func f ∷ ds) h = search (steps, cycles_stand all ds h.1)
+  cycles_stand all (dc.Func f ∷ ds) h = cycles_stand all ds h.1
 
   -- ---- types
 
@@ -144,7 +142,7 @@ module _ (t : Tests) (P : Fault → Type 0) where
   statements_there : (ss : List Stmt) → Each (Marked P t) (all_of stmt_spans ss) → AllOf (StmtStands t P) (map (found_stmt t) ss)
   statements_there = all_there (Marked P t) stmt_spans (found_stmt t) (StmtStands t P) (stmt_there t P)
 
-  pub body_stands : (subs : List Signature) (x : Head) → HeadStands x → Stands P (body_rule t subs x)
+  body_stands : (subs : List Signature) (x : Head) → HeadStands x → Stands P (body_rule t subs x)
   body_stands subs x h = bound P (in_order (map (found_stmt t) x.func.body) Pure (body_of subs x)) _ (order_stands t P (map (found_stmt t) x.func.body) Pure (body_of subs x) (statements_there x.func.body h.1)) (λ l. search steps)
 
   pub bodies_stand : (subs : List Signature) (hs : List Head) → AllOf HeadStands hs → Stands P (bodies_rule t subs hs)

@@ -17,8 +17,7 @@ use Rattle.asl_grammar.proofs.lexemes.Placing.{tokens_stand}
 use Rattle.asl_grammar.proofs.lexemes.Faults.{first_fault_stands}
 use Rattle.asl_rules.specs.declared.entry.Entry.{Entry}
 use Rattle.asl_rules.specs.Tests.{Tests}
-use Rattle.asl_rules.specs.declarations.Environments.{origin}
-use Rattle.asl_rules.specs.declarations.Programs.{default_decls, final_decls}
+use Rattle.asl_rules.specs.declarations.Programs.{origin, default_decls, final_decls}
 use Rattle.asl_rules.specs.declarations.Replacing.{header_of}
 use Rattle.asl_rules.specs.declarations.WrittenOut.{decl_written}
 use Rattle.asl_laws.specs.Answers.{FaultOfFiles}
@@ -26,7 +25,7 @@ use Rattle.asl_laws.proofs.basics.Lists.{AllOf}
 use Rattle.asl_laws.specs.Spans.{Mark, Each, Placed, all_of, decl_spans}
 use Rattle.asl_laws.proofs.spans.EachSpan.{each_placed}
 use Rattle.asl_laws.proofs.reading.Judged.{judged_each}
-use Rattle.asl_laws.proofs.spans.AskedSpans.{fault_there}
+use Rattle.asl_laws.proofs.spans.KnownSpans.{fault_there}
 use Rattle.asl_laws.proofs.verdict.ReadVerdict.{Faulty, HeaderSays, bodies_say, fault_of_steps}
 
 -- the span lies in the file of this number and this text

@@ -8,7 +8,7 @@ use Rattle.asl_syn.specs.declared.tree.Pattern.{Pattern, roll-Pattern}
 use Rattle.asl_syn.specs.declared.tree.Slice.{Slice, roll-Slice}
 use Rattle.asl_syn.specs.declared.tree.TypeExpr.{TypeExpr, roll-TypeExpr}
 use Rattle.asl_syn.specs.declared.tree.Bitfield.TheOpen as ex
-use Rattle.asl_syn.specs.declared.tree.Bitfield.TheFolds.{map-Bitfield, map-ConstraintPart, map-Expr, map-FieldValue, map-Pattern, map-Slice, map-TypeExpr, ind-Expr, ind-FieldValue, ind-Pattern, ind-Slice, ind-TypeExpr}
+use Rattle.asl_syn.specs.declared.tree.Bitfield.TheFolds.{map-Bitfield, map-ConstraintPart, map-Expr, map-FieldValue, map-Pattern, map-Slice, map-TypeExpr, ind-Expr, ind-Pattern, ind-Slice, ind-TypeExpr}
 
 -- what is shown of each kind of tree
 pub record Shown : Type 1 where
@@ -124,9 +124,6 @@ module _ (q : Shown) where
 
     pub each_expr : (x : Expr) → q.of_expr x
     each_expr = ind-Expr q.of_bitfield q.of_part q.of_expr q.of_given q.of_pattern q.of_slice q.of_type bitfield_step part_step expr_step given_step pattern_step slice_step type_step
-
-    pub each_given : (x : FieldValue) → q.of_given x
-    each_given = ind-FieldValue q.of_bitfield q.of_part q.of_expr q.of_given q.of_pattern q.of_slice q.of_type bitfield_step part_step expr_step given_step pattern_step slice_step type_step
 
     pub each_pattern : (x : Pattern) → q.of_pattern x
     each_pattern = ind-Pattern q.of_bitfield q.of_part q.of_expr q.of_given q.of_pattern q.of_slice q.of_type bitfield_step part_step expr_step given_step pattern_step slice_step type_step

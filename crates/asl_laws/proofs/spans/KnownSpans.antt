@@ -1,6 +1,12 @@
--- Outside bodies: what an expression may not hold stands at its spans, and so does the end of its evaluation without a run.
-use Rattle.std.proofs.Common.{ℕ, Bool, true, false, List, [], ◌∷◌, ◌++◌, map, Option, Some, None, cond, sym, ap, subst}
+-- Outside bodies: what an initialiser may not hold stands at its spans, and so does the end of its evaluation.
+use Rattle.std.proofs.Common.{◌≡◌, ℕ, inl, inr, Bool, true, false, List, [], ◌∷◌, ◌++◌, map, Option, Some, None, cond, sym, subst}
 use Rattle.asl_syn.specs.declared.token.Span.{Span}
+use Rattle.asl_syn.specs.declared.code.Fault.{Fault}
+use Rattle.asl_syn.specs.declared.code.StaticCode.{StaticCode}
+use Rattle.asl_syn.specs.declared.code.StaticCode.TheVariants.{S03, T01, T04}
+use Rattle.asl_syn.specs.declared.tree.Decl.{Decl}
+use Rattle.asl_syn.specs.declared.tree.Decl.TheVariants as dc
+use Rattle.std.specs.Prelude.{Err}
 use Rattle.asl_syn.specs.declared.tree.BinaryOperator.{BinaryOperator}
 use Rattle.asl_syn.specs.declared.tree.Bitfield.{Bitfield}
 use Rattle.asl_syn.specs.declared.tree.ConstraintPart.{ConstraintPart}
@@ -12,27 +18,39 @@ use Rattle.asl_syn.specs.declared.tree.TypeExpr.{TypeExpr}
 use Rattle.asl_syn.specs.declared.tree.Bitfield.TheOpen as ex
 use Rattle.asl_syn.specs.declared.tree.Bitfield.TheFolds.{fold-roll-Bitfield, fold-roll-ConstraintPart, fold-roll-Expr, fold-roll-FieldValue, fold-roll-Pattern, fold-roll-Slice, fold-roll-TypeExpr}
 use Rattle.asl_rules.specs.Tests.{Tests}
+use Rattle.asl_rules.specs.expressions.Exprs.{found, found_type}
 use Rattle.asl_rules.specs.types.Shapes.{SliceShape, PatternShape, PartShape, BitfieldShape}
-use Rattle.asl_rules.specs.types.Shaped.{pattern_parts, Shaped, TypeOver, itself, exprs_in, shapes_in, pattern_shapes, given_layer, slice_layer, pattern_layer, part_layer, bitfield_layer, type_layer}
+use Rattle.asl_rules.specs.types.Shaped.{Shaped, TypeOver, itself, exprs_in, shapes_in, pattern_shapes, given_layer, slice_layer, pattern_layer, part_layer, bitfield_layer, type_layer}
+use Rattle.asl_rules.specs.types.Closed.{closed}
 use Rattle.asl_rules.specs.types.Views.{stripped}
-use Rattle.asl_rules.specs.values.Values.{Value}
+use Rattle.asl_rules.specs.values.Values.{Value, int}
+use Rattle.asl_rules.specs.types.Written.{first_value}
+use Rattle.asl_rules.specs.values.Vectors.{literal_of}
 use Rattle.asl_rules.specs.values.Operators.{Decided, Already, ByRight, Strictness, Strict, Lazy, truth}
 use Rattle.asl_rules.specs.declarations.Scopes as scopes
 use Rattle.asl_rules.specs.declarations.Scopes.{storage_of}
+use Rattle.asl_rules.specs.Faults.{none_at, found_or}
+use Rattle.asl_rules.specs.declarations.Programs.{as_number, origin, verdict}
 use Rattle.asl_rules.specs.declared.entry.Entry.{Entry}
 use Rattle.asl_rules.specs.declarations.UsedNames.{Use, Uses, or_else, of_value, of_subprogram, of_type, first_said, Each as EachUse, joined as joined_uses, in_bitfield as uses_in_bitfield, in_part as uses_in_part, in_expr as uses_in_expr, in_field as uses_in_field, in_pattern as uses_in_pattern, in_slice as uses_in_slice, in_type as uses_in_type, bitfield_uses, part_uses, given_uses, expr_uses, pattern_uses, slice_uses, type_uses}
-use Rattle.asl_rules.specs.declarations.Barred.{is_global_var, var_at, barred, limit_barred_at, limit_barred}
+use Rattle.asl_rules.specs.declarations.Barred.{is_global_var, barred_at, barred}
 use Rattle.asl_rules.specs.runs.Plans.{Plan, Pure, Good, Bad, choose, lift}
 use Rattle.asl_rules.specs.runs.Forms as forms
 use Rattle.asl_rules.specs.runs.Forms.{at_once, behind, behind_all, behind_more, eval_all, unless_decided, behind_left}
 use Rattle.asl_rules.specs.declarations.Constants.{Known, settled, constant_layer, constant}
-use Rattle.asl_rules.proofs.constants.KnownParts.{pattern_known as same_pattern, known_bitfield, known_part, known_given, known_pattern, known_slice, known_type, known_layer, given_opened, slice_opened, range_opened, bitfield_opened, pattern_opened, type_opened}
+use Rattle.asl_rules.proofs.constants.KnownParts.{known_bitfield, known_part, known_given, known_pattern, known_slice, known_type, known_layer, given_opened, slice_opened, range_opened, bitfield_opened, pattern_opened, type_opened}
+use Rattle.asl_rules.proofs.basics.Tests.{some_same, none_some}
 use Rattle.asl_laws.proofs.basics.Lists.{AllOf}
 use Rattle.asl_laws.proofs.names.LayerUses.{using_bitfield, using_part, using_expr, using_given, using_pattern, using_slice, using_type}
-use Rattle.asl_laws.specs.Spans.{Spans, Each, Placed, joined, in_bitfield, in_part, in_expr, in_field, in_pattern, in_slice, in_type, bitfield_spans, part_spans, expr_spans, given_spans, pattern_spans, slice_spans, type_spans}
-use Rattle.asl_laws.proofs.spans.Inductions.{each_pattern, Shown, Bitfields, Parts, Exprs, Givens, Patterns, Slices, Types, BitfieldNode, ConstraintPartNode, ExprNode, FieldValueNode, PatternNode, SliceNode, TypeExprNode, bitfield_trees, part_trees, expr_trees, given_trees, pattern_trees, slice_trees, type_trees, Steps, each_expr}
+use Rattle.asl_laws.specs.Evaluated.{expr_outside}
+use Rattle.asl_laws.specs.Spans.{Mark, place, literal, Spans, Each, Placed, joined, all_of, maybe, decl_spans, in_bitfield, in_part, in_expr, in_field, in_pattern, in_slice, in_type, bitfield_spans, part_spans, expr_spans, given_spans, pattern_spans, slice_spans, type_spans}
+use Rattle.asl_laws.proofs.spans.EachSpan.{each_so}
+use Rattle.asl_laws.proofs.spans.Inductions.{Shown, Bitfields, Parts, Exprs, Givens, Patterns, Slices, Types, BitfieldNode, ConstraintPartNode, ExprNode, FieldValueNode, PatternNode, SliceNode, TypeExprNode, bitfield_trees, part_trees, expr_trees, given_trees, pattern_trees, slice_trees, type_trees, Steps, each_expr}
 use Rattle.asl_laws.proofs.spans.SpanLayers.{spans_of_bitfield, spans_of_part, spans_of_expr, spans_of_given, spans_of_pattern, spans_of_slice, spans_of_type, inside_bitfield, inside_part, inside_expr, inside_given, inside_pattern, inside_slice, inside_type}
-use Rattle.asl_laws.proofs.spans.ValueEnds.{Ends, ends, step_ends, binary_ends, unary_ends, truth_ends, element_ends, field_ends, constructed_ends, slices_end, each_ends, bits_at_ends, converted_ends, ShapeStands, ShapesStand, matched_ends}
+use Rattle.asl_laws.proofs.spans.Standing.{At, Stands, Marked}
+use Rattle.asl_laws.proofs.spans.ExprSpans.{expr_there}
+use Rattle.asl_laws.proofs.spans.ProgramSpans.{IsOutside, AsksOf, fault_stands}
+use Rattle.asl_laws.proofs.spans.ValueEnds.{Ends, ends, step_ends, FaultAt, evaluated_stands, binary_ends, unary_ends, truth_ends, element_ends, field_ends, constructed_ends, slices_end, each_ends, bits_at_ends, converted_ends, first_ends, ShapeStands, ShapesStand, matched_ends}
 
 module _ (P : Span → Type 0) where
   -- ---- uses of names
@@ -381,14 +399,6 @@ module _ (t : Tests) (P : Span → Type 0) where
   pub known_there : (x : Expr) (names : List scopes.Entry) → Each (Placed P) (expr_spans x) → Ends P (constant t.limit x names)
   known_there x names h = (expr_has x h).known_at names
 
-  -- the names that it uses stand at its spans
-  pub names_there : (x : Expr) → Each (Placed P) (expr_spans x) → UsesAt P (expr_uses x)
-  names_there x h = (expr_has x h).uses_at
-
-  -- the places of a pattern
-  pub pattern_shape_there : (p : Pattern) → Each (Placed P) (pattern_spans p) → ShapeStands P (pattern_parts p).shape
-  pattern_shape_there p h = subst (λ s. ShapeStands P s) (ap (λ s. s.shape) (same_pattern t.limit p)) (each_pattern shown steps_all p h).shape_at
-
   -- ---- what is barred, and what is evaluated
 
   -- what an option holds stands at such a span
@@ -404,23 +414,72 @@ module _ (t : Tests) (P : Span → Type 0) where
   at_var_stands span true p = p
   at_var_stands span false p = tt
 
-  var_use : (names : List scopes.Entry) (u : Use) → UseAt P u → MaybeAt (var_at names u)
-  var_use names (of_value span name) h = at_var_stands span (is_global_var (storage_of name names)) h
-  var_use names (of_subprogram span name) h = tt
-  var_use names (of_type name) h = tt
+  barred_use : (names : List scopes.Entry) (u : Use) → UseAt P u → MaybeAt (barred_at names u)
+  barred_use names (of_value span name) h = at_var_stands span (is_global_var (storage_of name names)) h
+  barred_use names (of_subprogram span name) h = h
+  barred_use names (of_type name) h = tt
 
-  limit_use : (names : List scopes.Entry) (u : Use) → UseAt P u → MaybeAt (limit_barred_at names u)
-  limit_use names (of_value span name) h = at_var_stands span (is_global_var (storage_of name names)) h
-  limit_use names (of_subprogram span name) h = h
-  limit_use names (of_type name) h = tt
-
-  said_at : (says : Use → Option Span) → ((u : Use) → UseAt P u → MaybeAt (says u)) → (us : Uses) → UsesAt P us → MaybeAt (first_said says us)
-  said_at says each [] h = tt
-  said_at says each (u ∷ us) h = or_at (says u) (first_said says us) (each u h.0) (said_at says each us h.1)
+  said_at : (names : List scopes.Entry) (us : Uses) → UsesAt P us → MaybeAt (first_said (barred_at names) us)
+  said_at names [] h = tt
+  said_at names (u ∷ us) h = or_at (barred_at names u) (first_said (barred_at names) us) (barred_use names u h.0) (said_at names us h.1)
 
   -- what is barred stands at the spans of the expression
   pub barred_there : (x : Expr) (names : List scopes.Entry) → Each (Placed P) (expr_spans x) → MaybeAt (barred x names)
-  barred_there x names h = said_at (var_at names) (var_use names) (expr_uses x) (expr_has x h).uses_at
+  barred_there x names h = said_at names (expr_uses x) (expr_has x h).uses_at
 
-  pub limit_barred_there : (x : Expr) (names : List scopes.Entry) → Each (Placed P) (expr_spans x) → MaybeAt (limit_barred x names)
-  limit_barred_there x names h = said_at (limit_barred_at names) (limit_use names) (expr_uses x) (expr_has x h).uses_at
+  -- ---- what is asked of evaluations outside bodies
+
+  -- where faults may stand, there spans are such
+  at_such : (span : Span) → At (FaultAt P) span → P span
+  at_such span p = p.fault_has T01 tt
+
+  at_there : (span : Span) → P span → At (FaultAt P) span
+  at_there span p = record { fault_has = λ code o. p }
+
+  none_literal : (span : Span) (o : Option (List Bool)) → P span → Stands (FaultAt P) (found_or o S03 span)
+  none_literal span None p = record { has = p }
+  none_literal span (Some bs) p = tt
+
+  mark_there : (mark : Mark) → Placed P mark → Marked (FaultAt P) t mark
+  mark_there (place span) p = at_there span p
+  mark_there (literal span text) p = (at_there span p, none_literal span (literal_of t.limit text) p)
+
+  all_there : (s : Spans) → Each (Placed P) s → Each (Marked (FaultAt P) t) s
+  all_there = each_so (Placed P) (Marked (FaultAt P) t) mark_there
+
+  none_stands : (code : StaticCode) (o : Option Span) → MaybeAt o → Stands (FaultAt P) (none_at code o)
+  none_stands code None h = tt
+  none_stands code (Some span) h = record { has = h }
+
+  number_stands : (span : Span) (x : Value) → P span → Stands (FaultAt P) (as_number span x)
+  number_stands span (int z) p = tt
+  number_stands span x p = record { has = p }
+
+  -- the spans of an expression outside bodies
+  outside_there : (ds : List Decl) → Each (Placed P) (all_of decl_spans ds) → (e : Expr) → IsOutside ds e → Each (Placed P) (expr_spans e)
+  outside_there (d ∷ ds) h e (c, (inl same, is)) = of_decl d h.0 (subst (λ x. expr_outside x ≡ Some e) (sym same) is)
+    where
+      given : (o : Option Expr) → Each (Placed P) (maybe expr_spans o) → o ≡ Some e → Each (Placed P) (expr_spans e)
+      given (Some x) k q = subst (λ (z : Expr). Each (Placed P) (expr_spans z)) (some_same x e q) k
+      given None k q = none_some e q
+
+      of_decl : (x : Decl) → Each (Placed P) (decl_spans x) → expr_outside x ≡ Some e → Each (Placed P) (expr_spans e)
+      of_decl (dc.Type x) k q = none_some e q
+      of_decl (dc.Storage x) k q = given x.init k.1.1.1 q
+      of_decl (dc.Func x) k q = given x.limit k.1.1.1.1.1.0 q
+  outside_there (d ∷ ds) h e (c, (inr i, is)) = outside_there ds h.1 e (c, (i, is))
+  outside_there [] h e (c, (i, is)) = absurd i
+
+  asks : (ds : List Decl) → Each (Placed P) (all_of decl_spans ds) → AsksOf t ds (FaultAt P)
+  asks ds h = record {
+    barred_at = λ names v e o. none_stands T04 (barred e names) (said_at names (expr_uses e) (expr_has e (outside_there ds h e o)).uses_at);
+    known_at = λ names v e o k S b so. evaluated_stands P (constant t.limit e names) ((expr_has e (outside_there ds h e o)).known_at names);
+    number_at = λ names v e o k S b so i x g. number_stands (found t e).span x (at_such (found t e).span (expr_there t (FaultAt P) e (all_there (expr_spans e) (outside_there ds h e o))).at);
+    bare_at = λ s i ty init p. record { has = at_such s.span p };
+    first_at = λ names v s i init ty q W w p.
+        evaluated_stands P (first_value t.limit (found_type t ty).span (closed W.ty)) (first_ends P t.limit (found_type t ty).span (closed W.ty) (at_such (found_type t ty).span p));
+  }
+
+  -- the fault of declarations stands at one of their spans, or, where no entry is found, at the beginning of the first file
+  pub fault_there : (e : Entry) (ds : List Decl) (f : Fault) → P origin → Each (Placed P) (all_of decl_spans ds) → verdict e ds t ≡ Err f → P f.span
+  fault_there e ds f p h is = fault_stands t (FaultAt P) ds (asks ds h) e f (at_there origin p) (all_there (all_of decl_spans ds) h) is

@@ -22,7 +22,7 @@ use Rattle.asl_rules.specs.values.Vectors.{Slicing, Wide, Places, width_of, widt
 use Rattle.asl_rules.specs.types.Written.{first_integer, first_bits, first_elements, first_value, first_fields, first_parts, converted}
 use Rattle.asl_rules.specs.values.Matching.{Matched, mask_match, value_match, at_most_match, at_least_match, range_match, negated_or, matches, any_match, all_match, is_matched}
 use Rattle.asl_rules.specs.runs.ByNames.{matched_in}
-use Rattle.asl_rules.specs.declarations.InitialValues.{evaluated}
+use Rattle.asl_rules.specs.declarations.Declarations.{evaluated}
 use Rattle.asl_laws.proofs.spans.Standing.{Stands}
 
 module _ (P : Span → Type 0) where
@@ -120,7 +120,7 @@ module _ (P : Span → Type 0) where
 
   -- ---- parts of values
 
-  pub inside_ends : {A : Type 0} (span : Span) (o : Option A) → P span → Ends P (inside span o)
+  inside_ends : {A : Type 0} (span : Span) (o : Option A) → P span → Ends P (inside span o)
   inside_ends span None p = p
   inside_ends span (Some x) p = tt
 
@@ -153,7 +153,7 @@ module _ (P : Span → Type 0) where
 
   -- ---- bits
 
-  pub width_ends : (limit : ℕ) (span : Span) (z : ℤ) → P span → Ends P (width_of limit span z)
+  width_ends : (limit : ℕ) (span : Span) (z : ℤ) → P span → Ends P (width_of limit span z)
   width_ends limit span (pos w) p = search ends
   width_ends limit span (negsuc w) p = p
 
@@ -169,7 +169,7 @@ module _ (P : Span → Type 0) where
   places_end span top [] p = tt
   places_end span top (s ∷ ss) p = search (ends, low_ends, places_end span top ss p)
 
-  pub tested_ends : (limit : ℕ) (span : Span) (top : Option ℕ) (o : Option (List Slicing)) → P span → Ends P (tested limit span top o)
+  tested_ends : (limit : ℕ) (span : Span) (top : Option ℕ) (o : Option (List Slicing)) → P span → Ends P (tested limit span top o)
   tested_ends limit span top None p = p
   tested_ends limit span top (Some ss) p = search (ends, widths_end, places_end)
 
@@ -199,7 +199,7 @@ module _ (P : Span → Type 0) where
   first_bits_end limit span (pos w) u p = search ends
   first_bits_end limit span (negsuc w) u p = p
 
-  pub first_elements_end : (n : ℕ) (k : Kind) (r : Pure Value) → Ends P r → Ends P (first_elements n k r)
+  first_elements_end : (n : ℕ) (k : Kind) (r : Pure Value) → Ends P r → Ends P (first_elements n k r)
   first_elements_end zero k r h = tt
   first_elements_end (suc n) k r h = step_ends P r _ h (λ x. tt)
 
@@ -289,7 +289,3 @@ module _ (P : Span → Type 0) where
   pub matched_ends : (limit : ℕ) (q : PatternShape) (zs : List Value) (x : Value) → ShapeStands q → Ends P (matched_in limit q zs x)
   matched_ends limit q zs x h =
       step_ends P (is_matched limit (pattern_and q no_pattern) zs x) _ (step_ends P (any_match limit (pattern_and q no_pattern) x zs) _ (any_ends limit (pattern_and q no_pattern) x zs (h, tt)) (λ m. tt)) (λ b. tt)
-
-  -- whether a value matches one of several
-  pub any_matched_ends : (limit : ℕ) (qs : PatternShapes) (zs : List Value) (x : Value) → ShapesStand qs → Ends P (is_matched limit qs zs x)
-  any_matched_ends limit qs zs x h = step_ends P (any_match limit qs x zs) _ (any_ends limit qs x zs h) (λ m. tt)

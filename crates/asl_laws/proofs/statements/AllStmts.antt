@@ -31,7 +31,6 @@ use Rattle.asl_rules.specs.private.Agreement.{types_in}
 use Rattle.asl_rules.specs.runs.Evaluation.{nodes, meaning}
 use Rattle.asl_rules.specs.private.TypedMeaning.{tree_nodes, tree_meaning, tree_node, act_node}
 use Rattle.asl_rules.specs.private.Erasure.{erased}
-use Rattle.asl_rules.specs.types.Closed.{Assignment}
 use Rattle.asl_rules.proofs.scopes.Naming.{WellNamed, well_declared}
 use Rattle.asl_laws.proofs.scopes.WellTyped.{FormedSubs}
 use Rattle.asl_laws.proofs.expressions.Twins.{Twins, Meets, Forms, twins}
@@ -81,12 +80,12 @@ otherwise_fallen = fold-Otherwise Bool Bool Bool Bool Bool alternative_falls cat
 abbrev fallen : StmtLayer → st.Stmt-F Bool Bool Bool Bool Bool
 fallen = map-Stmt Alternative Catcher ElseIf Otherwise Stmt Bool Bool Bool Bool Bool alternative_fallen catcher_fallen branch_fallen otherwise_fallen falls
 
-module _ (tests : Tests) (right : IsRight tests) (ds : List Decl) (base : List Entry) (gv : Assignment) (subs : List Signature) (loose : Bool) (funcs : List TreeFunc) (w : WellNamed base) where
+module _ (tests : Tests) (right : IsRight tests) (ds : List Decl) (base : List Entry) (subs : List Signature) (loose : Bool) (funcs : List TreeFunc) (w : WellNamed base) where
   abbrev Starts : StmtClaim → Core → Type 0
-  Starts j c = Held tests right ds base gv subs loose funcs w j c
+  Starts j c = Held tests right ds base subs loose funcs w j c
 
   abbrev Does_so : StmtClaim → Bool → StmtLayer → Core → Type 0
-  Does_so j b layer c = Acted tests right ds base gv subs loose funcs w j b layer c
+  Does_so j b layer c = Acted tests right ds base subs loose funcs w j b layer c
 
   -- the forms whose proofs stand elsewhere
   pub record OtherStmts : Type 0 where
@@ -94,27 +93,27 @@ module _ (tests : Tests) (right : IsRight tests) (ds : List Decl) (base : List E
     pub try : (j : StmtClaim) (span : Span) (ss : List Stmt) (cs : List Catcher) (o : Otherwise) (c : Core) → try_rule span (map (found_stmt tests) ss) (map (found_catcher tests) cs) (found_otherwise tests o) j.body ≡ Ok j.done → Starts j c → Does_so j (all_fall (map falls ss) || (any_falls (map catcher_fallen cs) || otherwise_fallen o)) (st.Try span ss cs o) c
 
   local_acted : (j : StmtClaim) (span : Span) (kind : LocalKind) (b : Bind) (ty : Option TypeExpr) (e : Expr) (c : Core) → bind_rule tests span kind b ty e j.body.scope ≡ Ok j.done → Starts j c → Does_so j true (st.Local span kind b ty e) c
-  local_acted j span kind (Single (Bound i)) ty e c h k = single_acted tests right ds base gv subs loose funcs w j span kind i ty e c h k
-  local_acted j span kind (Single (Unbound at)) ty e c h k = none_acted tests right ds base gv subs loose funcs w j span kind at ty e c h k
-  local_acted j span kind (Several at bs) ty e c h k = several_acted tests right ds base gv subs loose funcs w j span kind at bs ty e c h k
+  local_acted j span kind (Single (Bound i)) ty e c h k = single_acted tests right ds base subs loose funcs w j span kind i ty e c h k
+  local_acted j span kind (Single (Unbound at)) ty e c h k = none_acted tests right ds base subs loose funcs w j span kind at ty e c h k
+  local_acted j span kind (Several at bs) ty e c h k = several_acted tests right ds base subs loose funcs w j span kind at bs ty e c h k
 
   layer_acted : OtherStmts → (j : StmtClaim) (s : Stmt) (layer : StmtLayer) (c : Core) → found_stmt tests s j.body ≡ Ok j.done → stmt_layer_rule tests (opened tests layer) j.body ≡ Ok j.done → Starts j c → Does_so j (falls_layer (fallen layer)) layer c
-  layer_acted o j s (st.Pass span) c f h k = pass_acted tests right ds base gv subs loose funcs w j span c h k
-  layer_acted o j s (st.Unreachable span) c f h k = unreachable_acted tests right ds base gv subs loose funcs w j _ span c h k
-  layer_acted o j s (st.Assert span e) c f h k = assert_acted tests right ds base gv subs loose funcs w j span e c h k
+  layer_acted o j s (st.Pass span) c f h k = pass_acted tests right ds base subs loose funcs w j span c h k
+  layer_acted o j s (st.Unreachable span) c f h k = unreachable_acted tests right ds base subs loose funcs w j _ span c h k
+  layer_acted o j s (st.Assert span e) c f h k = assert_acted tests right ds base subs loose funcs w j span e c h k
   layer_acted o j s (st.Local span kind b ty e) c f h k = local_acted j span kind b ty e c h k
-  layer_acted o j s (st.LocalVars span is ty) c f h k = vars_acted tests right ds base gv subs loose funcs w j span is ty c h k
-  layer_acted o j s (st.Assign span x e) c f h k = assign_acted tests right ds base gv subs loose funcs w j span x e c h k
+  layer_acted o j s (st.LocalVars span is ty) c f h k = vars_acted tests right ds base subs loose funcs w j span is ty c h k
+  layer_acted o j s (st.Assign span x e) c f h k = assign_acted tests right ds base subs loose funcs w j span x e c h k
   layer_acted o j s (st.Invoke span i ps es) c f h k = o.invoke j s span i ps es c f h k
-  layer_acted o j s (st.If span e ss es last) c f h k = if_acted tests right ds base gv subs loose funcs w j _ span e ss es last c refl h k
-  layer_acted o j s (st.Case span e alts last) c f h k = case_acted tests right ds base gv subs loose funcs w j span e alts last c h k
-  layer_acted o j s (st.For span i a d b limit ss) c f h k = for_acted tests right ds base gv subs loose funcs w j span i a d b limit ss c h k
-  layer_acted o j s (st.While span e limit ss) c f h k = while_acted tests right ds base gv subs loose funcs w j span e limit ss c h k
-  layer_acted o j s (st.Repeat span ss e limit) c f h k = repeat_acted tests right ds base gv subs loose funcs w j span ss e limit c h k
-  layer_acted o j s (st.Return span e) c f h k = return_acted tests right ds base gv subs loose funcs w j span e c h k
-  layer_acted o j s (st.Throw span e) c f h k = throw_acted tests right ds base gv subs loose funcs w j _ span e c h k
+  layer_acted o j s (st.If span e ss es last) c f h k = if_acted tests right ds base subs loose funcs w j _ span e ss es last c refl h k
+  layer_acted o j s (st.Case span e alts last) c f h k = case_acted tests right ds base subs loose funcs w j span e alts last c h k
+  layer_acted o j s (st.For span i a d b limit ss) c f h k = for_acted tests right ds base subs loose funcs w j span i a d b limit ss c h k
+  layer_acted o j s (st.While span e limit ss) c f h k = while_acted tests right ds base subs loose funcs w j span e limit ss c h k
+  layer_acted o j s (st.Repeat span ss e limit) c f h k = repeat_acted tests right ds base subs loose funcs w j span ss e limit c h k
+  layer_acted o j s (st.Return span e) c f h k = return_acted tests right ds base subs loose funcs w j span e c h k
+  layer_acted o j s (st.Throw span e) c f h k = throw_acted tests right ds base subs loose funcs w j _ span e c h k
   layer_acted o j s (st.Try span ss cs last) c f h k = o.try j span ss cs last c h k
-  layer_acted o j s (st.Print span kind is) c f h k = print_acted tests right ds base gv subs loose funcs w j span kind is c h k
+  layer_acted o j s (st.Print span kind is) c f h k = print_acted tests right ds base subs loose funcs w j span kind is c h k
 
   pub stmt_acted : OtherStmts → (j : StmtClaim) (s : Stmt) (c : Core) → found_stmt tests s j.body ≡ Ok j.done → Starts j c → Does_so j (falls s) (out-Stmt s) c
   stmt_acted o j s c h k =
@@ -122,30 +121,30 @@ module _ (tests : Tests) (right : IsRight tests) (ds : List Decl) (base : List E
       let v : falls s ≡ falls_layer (fallen (out-Stmt s)) = fold_out-Stmt Bool Bool Bool Bool Bool alternative_falls catcher_falls branch_falls otherwise_falls falls_layer s in
       subst (λ b. Does_so j b (out-Stmt s) c) (sym v) (layer_acted o j s (out-Stmt s) c h (sym (ap (λ (f : FoundStmt). f j.body) u) ∙ h) k)
 
-module _ (tests : Tests) (right : IsRight tests) (ds : List Decl) (base : List Entry) (gv : Assignment) (subs : List Signature) (loose : Bool) (funcs : List TreeFunc) (w : WellNamed base) (s : FormedSubs tests right (types_in base) (well_declared base w) subs) where
-  held_in : (j : StmtClaim) (x : Stmt) (t : Act) (c : Core) → StmtIn tests base gv subs loose j x t c → Held tests right ds base gv subs loose funcs w j c
+module _ (tests : Tests) (right : IsRight tests) (ds : List Decl) (base : List Entry) (subs : List Signature) (loose : Bool) (funcs : List TreeFunc) (w : WellNamed base) (s : FormedSubs tests right (types_in base) (well_declared base w) subs) where
+  held_in : (j : StmtClaim) (x : Stmt) (t : Act) (c : Core) → StmtIn tests base subs loose j x t c → Held tests right ds base subs loose funcs w j c
   held_in j x t c p = record { at = p.at; subs_formed = s; formed = p.formed; result_is = p.result_is; handles = p.handles; scope_good = p.scope_good; body_is = p.body_is }
 
   -- each pair of forms does the same, where these do
-  each_form : Others tests right ds base gv subs loose funcs w s → OtherStmts tests right ds base gv subs loose funcs w → Singles (our_each tests base gv subs loose) (nodes (env tests right ds base gv subs loose funcs w)) (tree_nodes (program tests right ds base gv subs loose funcs w))
+  each_form : Others tests right ds base subs loose funcs w s → OtherStmts tests right ds base subs loose funcs w → Singles (our_each tests base subs loose) (nodes (env tests right ds base subs loose funcs w)) (tree_nodes (program tests right ds base subs loose funcs w))
   each_form o q = record {
     expr = λ i e f c p.
-        let r = asked_formed tests right ds base gv subs loose funcs w s o i.0 i.1 e c p.answers p.at in
-        subst (λ t. Same tests right base gv subs loose i.0 (λ x y c1. (x ≡ y) × (GivesAsked (types_in base) i.0.present i.1 x × At tests base gv subs loose i.0 c1)) ((nodes (env tests right ds base gv subs loose funcs w)).expr e c) (tree_node (program tests right ds base gv subs loose funcs w) t (erased c))) p.is_tree r.does;
+        let r = asked_formed tests right ds base subs loose funcs w s o i.0 i.1 e c p.answers p.at in
+        subst (λ t. Same tests right base subs loose i.0 (λ x y c1. (x ≡ y) × (GivesAsked (types_in base) i.0.present i.1 x × At tests base subs loose i.0 c1)) ((nodes (env tests right ds base subs loose funcs w)).expr e c) (tree_node (program tests right ds base subs loose funcs w) t (erased c))) p.is_tree r.does;
     stmt = λ j x t c p.
-        let r = stmt_acted tests right ds base gv subs loose funcs w q j.0 x c p.0.is_found (held_in j.0 x t c p.0) in
-        subst (λ b. Twins (our tests base gv subs loose) (λ y z c1. (y ≡ z) × Ends tests base gv subs loose j.0 b y c1) (λ y c1. Over tests base gv subs loose j.0.body.scope.class j.0.body.scope.names j.0.present j.0.around y c1) ((nodes (env tests right ds base gv subs loose funcs w)).stmt x c) (act_node (program tests right ds base gv subs loose funcs w) t (erased c))) (sym p.1)
-        (subst (λ u. ActSame tests right ds base gv subs loose funcs w j.0 (falls x) ((nodes (env tests right ds base gv subs loose funcs w)).stmt x c) (act_node (program tests right ds base gv subs loose funcs w) u (erased c))) p.0.is_tree r.does);
-    expr_at = λ i e f c p. let r = asked_formed tests right ds base gv subs loose funcs w s o i.0 i.1 e c p.answers p.at in r.at ∙ ap tree_at p.is_tree;
-    stmt_at = λ j x t c p. let r = stmt_acted tests right ds base gv subs loose funcs w q j.0 x c p.0.is_found (held_in j.0 x t c p.0) in r.at ∙ ap act_at p.0.is_tree;
+        let r = stmt_acted tests right ds base subs loose funcs w q j.0 x c p.0.is_found (held_in j.0 x t c p.0) in
+        subst (λ b. Twins (our tests base subs loose) (λ y z c1. (y ≡ z) × Ends tests base subs loose j.0 b y c1) (λ y c1. Over tests base subs loose j.0.body.scope.class j.0.body.scope.names j.0.present j.0.around y c1) ((nodes (env tests right ds base subs loose funcs w)).stmt x c) (act_node (program tests right ds base subs loose funcs w) t (erased c))) (sym p.1)
+        (subst (λ u. ActSame tests right ds base subs loose funcs w j.0 (falls x) ((nodes (env tests right ds base subs loose funcs w)).stmt x c) (act_node (program tests right ds base subs loose funcs w) u (erased c))) p.0.is_tree r.does);
+    expr_at = λ i e f c p. let r = asked_formed tests right ds base subs loose funcs w s o i.0 i.1 e c p.answers p.at in r.at ∙ ap tree_at p.is_tree;
+    stmt_at = λ j x t c p. let r = stmt_acted tests right ds base subs loose funcs w q j.0 x c p.0.is_found (held_in j.0 x t c p.0) in r.at ∙ ap act_at p.0.is_tree;
     expr_halts = λ i e f c p. p.at.agrees.globals;
     stmt_halts = λ j x t c p. p.0.at.agrees.globals;
   }
 
   -- and what is claimed of it
-  pub all_forms : Others tests right ds base gv subs loose funcs w s → OtherStmts tests right ds base gv subs loose funcs w → Forms (nodes (env tests right ds base gv subs loose funcs w)) (tree_nodes (program tests right ds base gv subs loose funcs w)) (our tests base gv subs loose)
-  all_forms o q = several_forms (our_each tests base gv subs loose) (nodes (env tests right ds base gv subs loose funcs w)) (tree_nodes (program tests right ds base gv subs loose funcs w)) (each_form o q)
+  pub all_forms : Others tests right ds base subs loose funcs w s → OtherStmts tests right ds base subs loose funcs w → Forms (nodes (env tests right ds base subs loose funcs w)) (tree_nodes (program tests right ds base subs loose funcs w)) (our tests base subs loose)
+  all_forms o q = several_forms (our_each tests base subs loose) (nodes (env tests right ds base subs loose funcs w)) (tree_nodes (program tests right ds base subs loose funcs w)) (each_form o q)
 
   -- so each node and its typed tree give the same, and what is claimed of it
-  pub all_meet : Others tests right ds base gv subs loose funcs w s → OtherStmts tests right ds base gv subs loose funcs w → (d : ℕ) → Meets (our tests base gv subs loose) (meaning (env tests right ds base gv subs loose funcs w) d) (tree_meaning (program tests right ds base gv subs loose funcs w) d)
-  all_meet o q d = twins (nodes (env tests right ds base gv subs loose funcs w)) (tree_nodes (program tests right ds base gv subs loose funcs w)) (our tests base gv subs loose) (all_forms o q) d
+  pub all_meet : Others tests right ds base subs loose funcs w s → OtherStmts tests right ds base subs loose funcs w → (d : ℕ) → Meets (our tests base subs loose) (meaning (env tests right ds base subs loose funcs w) d) (tree_meaning (program tests right ds base subs loose funcs w) d)
+  all_meet o q d = twins (nodes (env tests right ds base subs loose funcs w)) (tree_nodes (program tests right ds base subs loose funcs w)) (our tests base subs loose) (all_forms o q) d

@@ -65,7 +65,7 @@ shift m n = omega arith
 none_before : (n : ℕ) → 0 + n ≡ n
 none_before n = omega arith
 
-module _ (tests : Tests) (right : IsRight tests) (ds : List Decl) (base : List Entry) (gv : Assignment) (subs : List Signature) (loose : Bool) (funcs : List TreeFunc) (w : WellNamed base) (H : Here) where
+module _ (tests : Tests) (right : IsRight tests) (ds : List Decl) (base : List Entry) (subs : List Signature) (loose : Bool) (funcs : List TreeFunc) (w : WellNamed base) (H : Here) where
   abbrev d : List ℕ → Option Ty
   d = types_in base
 
@@ -93,7 +93,7 @@ module _ (tests : Tests) (right : IsRight tests) (ds : List Decl) (base : List E
     pub belongs : InType d av one ty
     pub part_is : (at : Span) → part_in at p.way x ≡ Good one
     pub typed_so : typed_suffixes tests p.name suffixes G ≡ Ok p.suffixes
-    pub is : record { steps = steps_of p.name suffixes; put = store_at (env tests right ds base gv subs loose funcs w) p.name one } ≡ u
+    pub is : record { steps = steps_of p.name suffixes; put = store_at (env tests right ds base subs loose funcs w) p.name one } ≡ u
 
   abbrev AllTake : Ty → Value → List TypedPlace → List StoreHere → Type 0
   AllTake S x [] [] = Unit {0}
@@ -133,7 +133,7 @@ module _ (tests : Tests) (right : IsRight tests) (ds : List Decl) (base : List E
     pub take : AllTake S x ps list
 
   abbrev TargetGood : Target → Type 0
-  TargetGood t = (S : Ty) (x : Value) (ps : List TypedPlace) (span : Span) → (found_target tests t).places G ≡ Ok ps → (found_target tests t).counts S ≡ true → WellFormed d S → InType d av x S → Given S x ps (assigned t (env tests right ds base gv subs loose funcs w) span x)
+  TargetGood t = (S : Ty) (x : Value) (ps : List TypedPlace) (span : Span) → (found_target tests t).places G ≡ Ok ps → (found_target tests t).counts S ≡ true → WellFormed d S → InType d av x S → Given S x ps (assigned t (env tests right ds base subs loose funcs w) span x)
 
   abbrev Below : Type 0
   Below = tg.Target-F ((t : Target) × TargetGood t)
@@ -143,14 +143,14 @@ module _ (tests : Tests) (right : IsRight tests) (ds : List Decl) (base : List E
 
   each_given : (ts : List ((t : Target) × TargetGood t)) (n : ℕ) (S : Ty) (Ss : Parts) (ws xs : Values) (ps : List TypedPlace) (span : Span) → ((m : ℕ) (V : Ty) → part_number m Ss ≡ Some V → part_behind (tuple_parts S) (m + n) ≡ Some V) → ((m : ℕ) (y : Value) → value_at m xs ≡ Some y → value_at (m + n) ws ≡ Some y) →
       ShapedParts d Ss → parts_have av xs Ss ≡ true → BuiltAll d xs → parts_viewed (parts_with Ss av) xs ≡ xs → all_places n (map (found_target tests) (firsts ts)) G ≡ Ok ps → parts_count (map (found_target tests) (firsts ts)) Ss ≡ true →
-      Given S (tuple_with ws) ps (assign_each (map assigned (firsts ts)) (env tests right ds base gv subs loose funcs w) span (values_in xs))
+      Given S (tuple_with ws) ps (assign_each (map assigned (firsts ts)) (env tests right ds base subs loose funcs w) span (values_in xs))
   each_given [] n S no_part ws no_value ps span f g s i b v h k = subst (λ z. Given S (tuple_with ws) z (Good [])) (ok_ok [] ps h) (record { list = []; is = refl; take = tt })
   each_given [] n S no_part ws (value x xs) ps span f g s i b v h k = no i
   each_given [] n S (part V Ss) ws xs ps span f g s i b v h k = no k
   each_given (t ∷ ts) n S no_part ws xs ps span f g s i b v h k = no k
   each_given (t ∷ ts) n S (part V Ss) ws no_value ps span f g s i b v h k = no i
   each_given (t ∷ ts) n S (part V Ss) ws (value x xs) ps span f g s i b v h k =
-      let e = env tests right ds base gv subs loose funcs w in
+      let e = env tests right ds base subs loose funcs w in
       let p = bind_ok ((found_target tests t.0).places G) _ ps h in
       let q = bind_ok (all_places (suc n) (map (found_target tests) (firsts ts)) G) _ ps p.then in
       let c = both ((found_target tests t.0).counts V) (parts_count (map (found_target tests) (firsts ts)) Ss) k in
@@ -182,11 +182,11 @@ module _ (tests : Tests) (right : IsRight tests) (ds : List Decl) (base : List E
   tuple_in S Ss x e s i = none_some Ss e
 
   targets_given : (ts : List ((t : Target) × TargetGood t)) (S : Ty) (o : Option Parts) (x : Value) (ps : List TypedPlace) (span : Span) → tuple_parts S ≡ o → all_places 0 (map (found_target tests) (firsts ts)) G ≡ Ok ps → all_count (map (found_target tests) (firsts ts)) o ≡ true → WellFormed d S → InType d av x S →
-      Given S x ps (pure.◌>>=◌ (parts span x) (λ xs. assign_each (map assigned (firsts ts)) (env tests right ds base gv subs loose funcs w) span xs))
+      Given S x ps (pure.◌>>=◌ (parts span x) (λ xs. assign_each (map assigned (firsts ts)) (env tests right ds base subs loose funcs w) span xs))
   targets_given ts S None x ps span e h k s i = no k
   targets_given ts S (Some Ss) x ps span e h k s i =
       let t = tuple_in S Ss x e s.shaped i in
-      subst (λ y. Given S y ps (pure.◌>>=◌ (parts span y) (λ xs. assign_each (map assigned (firsts ts)) (env tests right ds base gv subs loose funcs w) span xs))) (sym t.is)
+      subst (λ y. Given S y ps (pure.◌>>=◌ (parts span y) (λ xs. assign_each (map assigned (firsts ts)) (env tests right ds base subs loose funcs w) span xs))) (sym t.is)
       (each_given ts 0 S Ss t.values t.values ps span (λ m V z. ap (λ q. part_behind q (m + 0)) e ∙ subst (λ l. part_number l Ss ≡ Some V) (none_after m) z) (λ m y z. subst (λ l. value_at l t.values ≡ Some y) (none_after m) z) t.shaped t.have t.built t.seen h k)
     where
       none_after : (m : ℕ) → m ≡ m + 0
@@ -194,10 +194,10 @@ module _ (tests : Tests) (right : IsRight tests) (ds : List Decl) (base : List E
 
   layer_given : (y : Below) (S : Ty) (x : Value) (ps : List TypedPlace) (span : Span) → (target_layer tests (map-Target Target FoundTarget (found_target tests) (map-Target ((t : Target) × TargetGood t) Target (λ t. t.0) y))).places G ≡ Ok ps →
       (target_layer tests (map-Target Target FoundTarget (found_target tests) (map-Target ((t : Target) × TargetGood t) Target (λ t. t.0) y))).counts S ≡ true → WellFormed d S → InType d av x S →
-      Given S x ps (assigning_layer (map-Target Target Assigning assigned (map-Target ((t : Target) × TargetGood t) Target (λ t. t.0) y)) (env tests right ds base gv subs loose funcs w) span x)
+      Given S x ps (assigning_layer (map-Target Target Assigning assigned (map-Target ((t : Target) × TargetGood t) Target (λ t. t.0) y)) (env tests right ds base subs loose funcs w) span x)
   layer_given (tg.Discarded at) S x ps span h k s i = subst (λ z. Given S x z (Good [])) (ok_ok [] ps h) (record { list = []; is = refl; take = tt })
   layer_given (tg.Place at l xs) S x ps span h k s i =
-      let e = env tests right ds base gv subs loose funcs w in
+      let e = env tests right ds base subs loose funcs w in
       let y = bind_ok (typed_suffixes tests l xs G) _ ps h in
       let u : StoreHere = record { steps = steps_of l xs; put = store_at e l x } in
       subst (λ z. Given S x z (Good (u ∷ []))) (ok_ok (record { way = []; name = l; suffixes = y.value } ∷ []) ps y.then)
@@ -208,8 +208,8 @@ module _ (tests : Tests) (right : IsRight tests) (ds : List Decl) (base : List E
   target_step l y is S x ps span h k s i =
       let e = fold-roll-Target FoundTarget (target_layer tests) l in
       let f = fold-roll-Target Assigning assigning_layer l in
-      subst (λ (z : Assigning). Given S x ps (z (env tests right ds base gv subs loose funcs w) span x)) (sym f)
-      (subst (λ z. Given S x ps (assigning_layer (map-Target Target Assigning assigned z) (env tests right ds base gv subs loose funcs w) span x)) is
+      subst (λ (z : Assigning). Given S x ps (z (env tests right ds base subs loose funcs w) span x)) (sym f)
+      (subst (λ z. Given S x ps (assigning_layer (map-Target Target Assigning assigned z) (env tests right ds base subs loose funcs w) span x)) is
       (layer_given y S x ps span
       (ap (λ z. (target_layer tests (map-Target Target FoundTarget (found_target tests) z)).places G) is ∙ sym (ap (λ (z : FoundTarget). z.places G) e) ∙ h)
       (ap (λ z. (target_layer tests (map-Target Target FoundTarget (found_target tests) z)).counts S) is ∙ sym (ap (λ (z : FoundTarget). z.counts S) e) ∙ k) s i))
@@ -235,7 +235,7 @@ module _ (tests : Tests) (right : IsRight tests) (ds : List Decl) (base : List E
     pub built : Built d one
     pub holds : Bool
     pub none : holds ≡ false → has_bits one ≡ false
-    pub first_is : record { steps = steps_of name suffixes; put = store_at (env tests right ds base gv subs loose funcs w) name one } ≡ u
+    pub first_is : record { steps = steps_of name suffixes; put = store_at (env tests right ds base subs loose funcs w) name one } ≡ u
     pub second_is : record { steps = map step_ahead reached.steps; put = stored tests.limit holds name.span (slot_of name.text (layout_of G.names)) one } ≡ v
 
   abbrev AllTwo : List StoreHere → List StoreThere → Type 0
@@ -249,7 +249,7 @@ module _ (tests : Tests) (right : IsRight tests) (ds : List Decl) (base : List E
     pub is : r ≡ Good list
     pub two : AllTwo us list
 
-  all_stored : (c : Core) (o : Operand) (x : Value) (holds : Bool) → (holds ≡ false → has_bits x ≡ false) → (ps : List TypedPlace) (qs : List Placed) (us : List StoreHere) → At tests base gv subs loose H c → AllTake o.typed.ty x ps us → all_placed ps G ≡ Ok qs → all_parts_fit tests qs o ≡ Ok tt → Stored_all us (stores tests.limit holds (tree_places qs) x)
+  all_stored : (c : Core) (o : Operand) (x : Value) (holds : Bool) → (holds ≡ false → has_bits x ≡ false) → (ps : List TypedPlace) (qs : List Placed) (us : List StoreHere) → At tests base subs loose H c → AllTake o.typed.ty x ps us → all_placed ps G ≡ Ok qs → all_parts_fit tests qs o ≡ Ok tt → Stored_all us (stores tests.limit holds (tree_places qs) x)
   all_stored c o x holds none [] qs [] a t h k = subst (λ z. Stored_all [] (stores tests.limit holds (tree_places z) x)) (ok_ok [] qs h) (record { list = []; is = refl; two = tt })
   all_stored c o x holds none [] qs (u ∷ us) a t h k = absurd t
   all_stored c o x holds none (p ∷ ps) qs [] a t h k = absurd t
@@ -268,10 +268,10 @@ module _ (tests : Tests) (right : IsRight tests) (ds : List Decl) (base : List E
       let k1 : all_parts_fit tests (at ∷ l.value) o ≡ Ok tt = subst (λ v. all_parts_fit tests v o ≡ Ok tt) (sym are) k in
       let f = then_ok (part_fits tests (part_of p.way (Some o.typed.ty)) r.value.ty o.span) _ tt k1 in
       let g : part_fits tests (Some t.0.ty) r.value.ty o.span ≡ Ok tt = subst (λ v. part_fits tests v r.value.ty o.span ≡ Ok tt) t.0.ty_is f.first in
-      let good = scope_good av base gv G.names c w a.agrees p.name.text (Stored s.value) stands in
+      let good = scope_good av base G.names c w a.agrees p.name.text (Stored s.value) stands in
       let formed =
-      suffixes_formed tests right ds base gv subs loose funcs w G p.name t.0.suffixes p.suffixes s.value.ty r.value
-      (counts_held av base gv G.names c a.agrees) good.0 t.0.typed_so r.first in
+      suffixes_formed tests right ds base subs loose funcs w G p.name t.0.suffixes p.suffixes s.value.ty r.value
+      (counts_held av base G.names c a.agrees) good.0 t.0.typed_so r.first in
       let rest = all_stored c o x holds none ps l.value us a t.1 l.first f.then in
       let v : StoreThere = record { steps = map step_ahead r.value.steps; put = stored tests.limit holds p.name.span (slot_of p.name.text (layout_of G.names)) t.0.one } in
       subst (λ e. Stored_all (u ∷ us) (stores tests.limit holds (tree_places e) x)) are
@@ -302,57 +302,57 @@ module _ (tests : Tests) (right : IsRight tests) (ds : List Decl) (base : List E
         );
       })
 
-  stored_by : {A B : Type 0} (Q : A → B → Core → Type 0) (span : Span) (name : List ℕ) (s : Storage) (p q : PureOf Value) (c : Core) (k : Core → Does A) (l : BareCore → Runs B) → p ≡ q → Gives d av s.ty p → At tests base gv subs loose H c → standing_of name G.names ≡ Some (Stored s) → s.is_mutable ≡ true →
-      ((c1 : Core) → At tests base gv subs loose H c1 → Same tests right base gv subs loose H Q (k c1) (l (erased c1))) →
-      Same tests right base gv subs loose H Q (lift (pure.◌>>=◌ p (λ z. store span name z c)) c k) (lift (pure.◌>>=◌ q (λ z. put span (slot_of name (layout_of G.names)) z (erased c))) (erased c) l)
+  stored_by : {A B : Type 0} (Q : A → B → Core → Type 0) (span : Span) (name : List ℕ) (s : Storage) (p q : PureOf Value) (c : Core) (k : Core → Does A) (l : BareCore → Runs B) → p ≡ q → Gives d av s.ty p → At tests base subs loose H c → standing_of name G.names ≡ Some (Stored s) → s.is_mutable ≡ true →
+      ((c1 : Core) → At tests base subs loose H c1 → Same tests right base subs loose H Q (k c1) (l (erased c1))) →
+      Same tests right base subs loose H Q (lift (pure.◌>>=◌ p (λ z. store span name z c)) c k) (lift (pure.◌>>=◌ q (λ z. put span (slot_of name (layout_of G.names)) z (erased c))) (erased c) l)
   stored_by Q span name s (Bad (Stuck mistake at)) q c k l e g a h m next = absurd g
   stored_by Q span name s (Bad (Faulted code at)) q c k l e g a h m next =
-      subst (λ r. Same tests right base gv subs loose H Q (lift (pure.◌>>=◌ (Bad (Faulted code at)) (λ z. store span name z c)) c k) (lift (pure.◌>>=◌ r (λ z. put span (slot_of name (layout_of G.names)) z (erased c))) (erased c) l)) e (refl, refl, a.agrees.globals)
+      subst (λ r. Same tests right base subs loose H Q (lift (pure.◌>>=◌ (Bad (Faulted code at)) (λ z. store span name z c)) c k) (lift (pure.◌>>=◌ r (λ z. put span (slot_of name (layout_of G.names)) z (erased c))) (erased c) l)) e (refl, refl, a.agrees.globals)
   stored_by Q span name s (Good z) q c k l e g a h m next =
-      let r = store_same av base gv G.names c span name z s w.outside a.agrees h m g in
-      subst (λ r1. Same tests right base gv subs loose H Q (lift (store span name z c) c k) (lift (pure.◌>>=◌ r1 (λ y. put span (slot_of name (layout_of G.names)) y (erased c))) (erased c) l)) e
-      (subst (λ r1. Same tests right base gv subs loose H Q (lift r1 c k) (lift (put span (slot_of name (layout_of G.names)) z (erased c)) (erased c) l)) (sym r.is)
-      (subst (λ r1. Same tests right base gv subs loose H Q (k r.after) (lift r1 (erased c) l)) (sym r.put_is)
+      let r = store_same av base G.names c span name z s w.outside a.agrees h m g in
+      subst (λ r1. Same tests right base subs loose H Q (lift (store span name z c) c k) (lift (pure.◌>>=◌ r1 (λ y. put span (slot_of name (layout_of G.names)) y (erased c))) (erased c) l)) e
+      (subst (λ r1. Same tests right base subs loose H Q (lift r1 c k) (lift (put span (slot_of name (layout_of G.names)) z (erased c)) (erased c) l)) (sym r.is)
+      (subst (λ r1. Same tests right base subs loose H Q (k r.after) (lift r1 (erased c) l)) (sym r.put_is)
       (next r.after (record { agrees = r.agrees; subs_are = a.subs_are; around_is = r.around_is ∙ a.around_is; stands = a.stands; counted = a.counted }))))
 
   -- one store, and what follows it
-  store_then : {A B : Type 0} (Q : A → B → Core → Type 0) (u : StoreHere) (v : StoreThere) (t : Two u v) (ss : List Step) (ps : List places.Step) (c : Core) (k : Core → Does A) (l : BareCore → Runs B) → Ways tests right ds base gv subs loose funcs w H t.storage.ty t.reached.ty ss ps → At tests base gv subs loose H c →
-      ((c1 : Core) → At tests base gv subs loose H c1 → Same tests right base gv subs loose H Q (k c1) (l (erased c1))) →
-      Same tests right base gv subs loose H Q (lift (store_at (env tests right ds base gv subs loose funcs w) t.name t.one ss c) c k) (lift (stored tests.limit t.holds t.name.span (slot_of t.name.text (layout_of G.names)) t.one ps (erased c)) (erased c) l)
+  store_then : {A B : Type 0} (Q : A → B → Core → Type 0) (u : StoreHere) (v : StoreThere) (t : Two u v) (ss : List Step) (ps : List places.Step) (c : Core) (k : Core → Does A) (l : BareCore → Runs B) → Ways tests right ds base subs loose funcs w H t.storage.ty t.reached.ty ss ps → At tests base subs loose H c →
+      ((c1 : Core) → At tests base subs loose H c1 → Same tests right base subs loose H Q (k c1) (l (erased c1))) →
+      Same tests right base subs loose H Q (lift (store_at (env tests right ds base subs loose funcs w) t.name t.one ss c) c k) (lift (stored tests.limit t.holds t.name.span (slot_of t.name.text (layout_of G.names)) t.one ps (erased c)) (erased c) l)
   store_then Q u v t ss ps c k l ways a next =
-      let e = env tests right ds base gv subs loose funcs w in
+      let e = env tests right ds base subs loose funcs w in
       let span = t.name.span in
       let slot = slot_of t.name.text (layout_of G.names) in
-      let f = found_at av d t.storage (or_value (value_of t.name.text c.frame) (value_of t.name.text c.globals)) (finds av base gv G.names c t.name.text t.storage a.agrees t.stands) in
-      let r = slot_is f.one t.name.text G.names c (has_names av base gv G.names c w.outside a.agrees) f.is in
+      let f = found_at av d t.storage (or_value (value_of t.name.text c.frame) (value_of t.name.text c.globals)) (finds av base G.names c t.name.text t.storage a.agrees t.stands) in
+      let r = slot_is f.one t.name.text G.names c (has_names av base G.names c w.outside a.agrees) f.is in
       let b = ways span t.one f.one t.has_it t.built f.belongs in
-      subst (λ z. Same tests right base gv subs loose H Q (lift (pure.◌>>=◌ z (λ x. pure.◌>>=◌ (updated e span ss t.one x) (λ y. store span t.name.text y c))) c k) (lift (stored tests.limit t.holds span slot t.one ps (erased c)) (erased c) l)) (sym (ap (known span) f.is))
-      (subst (λ z. Same tests right base gv subs loose H Q (lift (pure.◌>>=◌ (updated e span ss t.one f.one) (λ y. store span t.name.text y c)) c k) (lift (pure.◌>>=◌ z (λ x. pure.◌>>=◌ (places.updated tests.limit t.holds ps t.one x) (λ y. put span slot y (erased c)))) (erased c) l)) (sym (ap (known span) r))
+      subst (λ z. Same tests right base subs loose H Q (lift (pure.◌>>=◌ z (λ x. pure.◌>>=◌ (updated e span ss t.one x) (λ y. store span t.name.text y c))) c k) (lift (stored tests.limit t.holds span slot t.one ps (erased c)) (erased c) l)) (sym (ap (known span) f.is))
+      (subst (λ z. Same tests right base subs loose H Q (lift (pure.◌>>=◌ (updated e span ss t.one f.one) (λ y. store span t.name.text y c)) c k) (lift (pure.◌>>=◌ z (λ x. pure.◌>>=◌ (places.updated tests.limit t.holds ps t.one x) (λ y. put span slot y (erased c)))) (erased c) l)) (sym (ap (known span) r))
       (stored_by Q span t.name.text t.storage (updated e span ss t.one f.one) (places.updated tests.limit t.holds ps t.one f.one) c k l (b.0 ∙ updated_is tests.limit t.holds ps t.one f.one t.none) b.1 a t.stands t.is_mutable next))
 
-  one_same : {A B : Type 0} (Q : A → B → Core → Type 0) (u : StoreHere) (v : StoreThere) (c : Core) (k : Core → Does A) (l : BareCore → Runs B) → Two u v → At tests base gv subs loose H c → ((c1 : Core) → At tests base gv subs loose H c1 → Same tests right base gv subs loose H Q (k c1) (l (erased c1))) →
-      Same tests right base gv subs loose H Q (eval_steps u.steps [] c (λ ns c1. lift (u.put ns c1) c1 k)) (eval_steps v.steps [] (erased c) (λ ns c1. lift (v.put ns c1) c1 l))
+  one_same : {A B : Type 0} (Q : A → B → Core → Type 0) (u : StoreHere) (v : StoreThere) (c : Core) (k : Core → Does A) (l : BareCore → Runs B) → Two u v → At tests base subs loose H c → ((c1 : Core) → At tests base subs loose H c1 → Same tests right base subs loose H Q (k c1) (l (erased c1))) →
+      Same tests right base subs loose H Q (eval_steps u.steps [] c (λ ns c1. lift (u.put ns c1) c1 k)) (eval_steps v.steps [] (erased c) (λ ns c1. lift (v.put ns c1) c1 l))
   one_same Q u v c k l t a next =
-      let e = env tests right ds base gv subs loose funcs w in
+      let e = env tests right ds base subs loose funcs w in
       let slot = slot_of t.name.text (layout_of G.names) in
-      subst (λ (z : StoreHere). Same tests right base gv subs loose H Q (eval_steps z.steps [] c (λ ns c1. lift (z.put ns c1) c1 k)) (eval_steps v.steps [] (erased c) (λ ns c1. lift (v.put ns c1) c1 l))) t.first_is
-      (subst (λ (z : StoreThere). Same tests right base gv subs loose H Q (eval_steps (steps_of t.name t.suffixes) [] c (λ ns c1. lift (store_at e t.name t.one ns c1) c1 k)) (eval_steps z.steps [] (erased c) (λ ns c1. lift (z.put ns c1) c1 l))) t.second_is
-      (suffixes_same tests right ds base gv subs loose funcs w H Q t.name t.suffixes t.typed_list t.storage.ty t.reached [] [] c (λ ns c1. lift (store_at e t.name t.one ns c1) c1 k) (λ ns c1. lift (stored tests.limit t.holds t.name.span slot t.one ns c1) c1 l)
-      (scope_good av base gv G.names c w a.agrees t.name.text (Stored t.storage) t.stands).0 t.typed_so t.behind_is a
+      subst (λ (z : StoreHere). Same tests right base subs loose H Q (eval_steps z.steps [] c (λ ns c1. lift (z.put ns c1) c1 k)) (eval_steps v.steps [] (erased c) (λ ns c1. lift (v.put ns c1) c1 l))) t.first_is
+      (subst (λ (z : StoreThere). Same tests right base subs loose H Q (eval_steps (steps_of t.name t.suffixes) [] c (λ ns c1. lift (store_at e t.name t.one ns c1) c1 k)) (eval_steps z.steps [] (erased c) (λ ns c1. lift (z.put ns c1) c1 l))) t.second_is
+      (suffixes_same tests right ds base subs loose funcs w H Q t.name t.suffixes t.typed_list t.storage.ty t.reached [] [] c (λ ns c1. lift (store_at e t.name t.one ns c1) c1 k) (λ ns c1. lift (stored tests.limit t.holds t.name.span slot t.one ns c1) c1 l)
+      (scope_good av base G.names c w a.agrees t.name.text (Stored t.storage) t.stands).0 t.typed_so t.behind_is a
       (λ ss ps c1 ways a1. store_then Q u v t ss ps c1 k l ways a1 next)))
 
-  stores_same : (Q : Exit → Exit → Core → Type 0) (us : List StoreHere) (vs : List StoreThere) (c : Core) → AllTwo us vs → At tests base gv subs loose H c → ((c1 : Core) → At tests base gv subs loose H c1 → Q Normal Normal c1) → Same tests right base gv subs loose H Q (store_each us c) (store_each vs (erased c))
+  stores_same : (Q : Exit → Exit → Core → Type 0) (us : List StoreHere) (vs : List StoreThere) (c : Core) → AllTwo us vs → At tests base subs loose H c → ((c1 : Core) → At tests base subs loose H c1 → Q Normal Normal c1) → Same tests right base subs loose H Q (store_each us c) (store_each vs (erased c))
   stores_same Q [] [] c t a next = (refl, next c a)
   stores_same Q [] (v ∷ vs) c t a next = absurd t
   stores_same Q (u ∷ us) [] c t a next = absurd t
   stores_same Q (u ∷ us) (v ∷ vs) c t a next = one_same Q u v c (store_each us) (store_each vs) t.0 a (λ c1 a1. stores_same Q us vs c1 t.1 a1 next)
 
-module _ (tests : Tests) (right : IsRight tests) (ds : List Decl) (base : List Entry) (gv : Assignment) (subs : List Signature) (loose : Bool) (funcs : List TreeFunc) (w : WellNamed base) where
-  pub assign_acted : (j : StmtClaim) (span : Span) (t : Target) (e : Expr) (c : Core) → assign_rule tests span (found_target tests t) e j.body.scope ≡ Ok j.done → Held tests right ds base gv subs loose funcs w j c → Acted tests right ds base gv subs loose funcs w j true (st.Assign span t e) c
+module _ (tests : Tests) (right : IsRight tests) (ds : List Decl) (base : List Entry) (subs : List Signature) (loose : Bool) (funcs : List TreeFunc) (w : WellNamed base) where
+  pub assign_acted : (j : StmtClaim) (span : Span) (t : Target) (e : Expr) (c : Core) → assign_rule tests span (found_target tests t) e j.body.scope ≡ Ok j.done → Held tests right ds base subs loose funcs w j c → Acted tests right ds base subs loose funcs w j true (st.Assign span t e) c
   assign_acted j span t e c h k =
       let G1 = j.body.scope in
-      let H1 = here tests right ds base gv subs loose funcs w j in
-      let ev = env tests right ds base gv subs loose funcs w in
+      let H1 = here tests right ds base subs loose funcs w j in
+      let ev = env tests right ds base subs loose funcs w in
       let p = bind_ok ((found_target tests t).places G1) _ j.done h in
       let o = bind_ok (operand_of tests e G1) _ j.done p.then in
       let q = bind_ok (all_placed p.value G1) _ j.done o.then in
@@ -365,13 +365,13 @@ module _ (tests : Tests) (right : IsRight tests) (ds : List Decl) (base : List E
       let dn = done G1.names kind act in
       let ty = operand_typed tests e G1 o.value o.first in
       let holds = holds_bits (tree_type S.tree) in
-      let formed = typed_formed tests right (types_in base) (well_declared base w) e G1 S (scope_good j.present base gv G1.names c w k.at.agrees) (subst (FormedSubs tests right (types_in base) (well_declared base w)) (sym k.at.subs_are) k.subs_formed) ty in
-      acted tests right ds base gv subs loose funcs w j true (st.Assign span t e) c dn (ended_is G1.class span (all_together Pure ks) kind G1.names act j.done n.then) refl
-      (λ i. operand tests right base gv subs loose H1 (OutAct tests right ds base gv subs loose funcs w j true) e S c (λ x c1. lift (assigned t ev span x) c1 (λ ss. store_each ss c1)) (λ x c1. lift (stores tests.limit holds (tree_places q.value) x) c1 (λ ss. store_each ss c1)) ty k.at
+      let formed = typed_formed tests right (types_in base) (well_declared base w) e G1 S (scope_good j.present base G1.names c w k.at.agrees) (subst (FormedSubs tests right (types_in base) (well_declared base w)) (sym k.at.subs_are) k.subs_formed) ty in
+      acted tests right ds base subs loose funcs w j true (st.Assign span t e) c dn (ended_is G1.class span (all_together Pure ks) kind G1.names act j.done n.then) refl
+      (λ i. operand tests right base subs loose H1 (OutAct tests right ds base subs loose funcs w j true) e S c (λ x c1. lift (assigned t ev span x) c1 (λ ss. store_each ss c1)) (λ x c1. lift (stores tests.limit holds (tree_places q.value) x) c1 (λ ss. store_each ss c1)) ty k.at
       (λ x c1 v a1.
-      let g = target_good tests right ds base gv subs loose funcs w H1 t S.ty x p.value span p.first (need_ok ((found_target tests t).counts S.ty) T05 span tt n.first) formed v in
-      let z = all_stored tests right ds base gv subs loose funcs w H1 c1 o.value x holds (λ n. none_in j.present S.ty x (sym (ap holds_bits (tree_typed tests e G1 S ty)) ∙ n) v.0) p.value q.value g.list a1 g.take q.first f.first in
-      subst (λ r. Same tests right base gv subs loose H1 (OutAct tests right ds base gv subs loose funcs w j true) (lift r c1 (λ ss. store_each ss c1)) (lift (stores tests.limit holds (tree_places q.value) x) (erased c1) (λ ss. store_each ss (erased c1)))) (sym g.is)
-      (subst (λ r. Same tests right base gv subs loose H1 (OutAct tests right ds base gv subs loose funcs w j true) (store_each g.list c1) (lift r (erased c1) (λ ss. store_each ss (erased c1)))) (sym z.is)
-      (stores_same tests right ds base gv subs loose funcs w H1 (OutAct tests right ds base gv subs loose funcs w j true) g.list z.list c1 z.two a1
-      (λ c2 a2. (refl, ends_here tests right ds base gv subs loose funcs w j c2 dn i refl a2))))))
+      let g = target_good tests right ds base subs loose funcs w H1 t S.ty x p.value span p.first (need_ok ((found_target tests t).counts S.ty) T05 span tt n.first) formed v in
+      let z = all_stored tests right ds base subs loose funcs w H1 c1 o.value x holds (λ n. none_in j.present S.ty x (sym (ap holds_bits (tree_typed tests e G1 S ty)) ∙ n) v.0) p.value q.value g.list a1 g.take q.first f.first in
+      subst (λ r. Same tests right base subs loose H1 (OutAct tests right ds base subs loose funcs w j true) (lift r c1 (λ ss. store_each ss c1)) (lift (stores tests.limit holds (tree_places q.value) x) (erased c1) (λ ss. store_each ss (erased c1)))) (sym g.is)
+      (subst (λ r. Same tests right base subs loose H1 (OutAct tests right ds base subs loose funcs w j true) (store_each g.list c1) (lift r (erased c1) (λ ss. store_each ss (erased c1)))) (sym z.is)
+      (stores_same tests right ds base subs loose funcs w H1 (OutAct tests right ds base subs loose funcs w j true) g.list z.list c1 z.two a1
+      (λ c2 a2. (refl, ends_here tests right ds base subs loose funcs w j c2 dn i refl a2))))))

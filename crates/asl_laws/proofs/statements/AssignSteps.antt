@@ -24,7 +24,7 @@ use Rattle.asl_rules.specs.private.WellFormed.{AllInside, Shaped, ShapedView, Bu
 use Rattle.asl_rules.specs.runs.States.{of_type, of_value, kept}
 use Rattle.asl_rules.specs.private.Belonging.{has_type, fields_have, all_have, InType}
 use Rattle.asl_rules.specs.private.Agreement.{no_atoms, types_in}
-use Rattle.asl_rules.specs.declarations.Environments.{Environment}
+use Rattle.asl_rules.specs.declarations.Programs.{Environment}
 use Rattle.asl_rules.specs.runs.Plans.{Faulted, Stuck, WrongKind, Pure, Good, Bad}
 use Rattle.asl_rules.specs.runs.Pures.{◌>>=◌, there}
 use Rattle.asl_rules.specs.values.Vectors.{Slicing, Places, slicings, tested, slice_places, with_slices, read_bits, write_bits, total_width, places_of_field, places_of_fields, bits_at, all_within, fill, with_places, bitfield_of, with_bitfield, bitfields_of, with_bitfields, named_among, bitfields_named}
@@ -40,7 +40,7 @@ use Rattle.asl_rules.proofs.values.Shapes.{named_parts, array_is}
 use Rattle.asl_rules.proofs.values.Keeping.{written_once}
 use Rattle.asl_rules.proofs.values.KindOf.{has_kind}
 use Rattle.asl_rules.proofs.values.Bare.{viewed_built}
-use Rattle.asl_rules.proofs.values.Viewing.{width_is, viewed_alike, viewed_has, viewed_twice, adopted_viewed, array_same, same_first, same_rest}
+use Rattle.asl_rules.proofs.values.Viewing.{width_is, viewed_has, viewed_twice, adopted_viewed, array_same, same_first, same_rest}
 use Rattle.asl_rules.proofs.expressions.OperatorForms.{Gives, is_int, is_bitvector}
 use Rattle.asl_rules.proofs.expressions.MemberForms as member
 use Rattle.asl_rules.proofs.expressions.MemberForms.{same_view, same_number, constant_length, all_inside, each_found, member_gives, bitfields_give}
@@ -115,9 +115,9 @@ both_holds d av T P (Good x) f g h next = next x refl h
 both_holds d av T P (Bad (Faulted code span)) f g h next = (refl, tt)
 both_holds d av T P (Bad (Stuck mistake span)) f g h next = absurd h
 
-module _ (d : List ℕ → Option Ty) (w : WellDeclared d) (av gv : Assignment) (tests : Tests) (right : IsRight tests) where
+module _ (d : List ℕ → Option Ty) (w : WellDeclared d) (av : Assignment) (tests : Tests) (right : IsRight tests) where
   abbrev types : Named
-  types = λ n. option_map (λ T. type_with T gv) (d n)
+  types = λ n. option_map closed (d n)
 
   -- ---- fields
 
@@ -129,8 +129,8 @@ module _ (d : List ℕ → Option Ty) (w : WellDeclared d) (av gv : Assignment) 
     pub have : fields_have av after fs ≡ true
     pub seen : FieldsSeen fs after
     pub built : BuiltFields d after
-    pub type_is : cl.field_among f (fields_with fs gv) ≡ Some (type_with q.1 gv)
-    pub closed_is : type_with q.1 gv ≡ type_with q.1 av
+    pub type_is : cl.field_among f (fields_with fs no_atoms) ≡ Some (closed q.1)
+    pub closed_is : closed q.1 ≡ type_with q.1 av
 
   -- a field with its value
   record First (i g : List ℕ) (T : Ty) (x : Value) : Type 0 where
@@ -138,7 +138,7 @@ module _ (d : List ℕ → Option Ty) (w : WellDeclared d) (av gv : Assignment) 
     pub has_it : has_type av x T ≡ true
     pub seen : viewed (closed T) x ≡ x
     pub built : Built d x
-    pub closed_is : type_with T gv ≡ type_with T av
+    pub closed_is : closed T ≡ type_with T av
 
   further_put : (fs : Fields) (i g f : List ℕ) (T : Ty) (x y : Value) (xs : FieldValues) (q : ℕ × Ty) (o : Option (ℕ × Ty)) → First i g T x → bytes_eq i f ≡ false → one_further o ≡ Some q → ((p : ℕ × Ty) → o ≡ Some p → InType d av y p.1 → FieldPut fs p f xs y) → InType d av y q.1 → FieldPut (field i T fs) q f (value_of_field g x xs) y
   further_put fs i g f T x y xs q None k b e next j = none_some q e
@@ -151,7 +151,7 @@ module _ (d : List ℕ → Option Ty) (w : WellDeclared d) (av gv : Assignment) 
         have = and_true (bytes_eq g i) (has_type av x T && fields_have av r.after fs) k.named_so (and_true (has_type av x T) (fields_have av r.after fs) k.has_it r.have);
         seen = (k.seen, r.seen);
         built = (k.built, r.built);
-        type_is = ap (λ c. cond c (Some (type_with T gv)) (cl.field_among f (fields_with fs gv))) b ∙ r.type_is;
+        type_is = ap (λ c. cond c (Some (closed T)) (cl.field_among f (fields_with fs no_atoms))) b ∙ r.type_is;
         closed_is = r.closed_is;
       }) j
 
@@ -165,22 +165,22 @@ module _ (d : List ℕ → Option Ty) (w : WellDeclared d) (av gv : Assignment) 
         by_name = ap (λ c. cond c (Some (value_of_field g y xs)) (option_map (λ ys. value_of_field g x ys) (with_field_value f y xs))) (ap (λ n. bytes_eq n f) (same_name g i k.named_so) ∙ b);
         by_number = refl;
         have = and_true (bytes_eq g i) (has_type av y T && fields_have av xs fs) k.named_so (and_true (has_type av y T) (fields_have av xs fs) l.0 h);
-        seen = (viewed_alike no_atoms av T y ∙ l.2, s);
+        seen = (subst (λ V. viewed V y ≡ y) (sym k.closed_is) l.2, s);
         built = (l.1, u);
-        type_is = ap (λ c. cond c (Some (type_with T gv)) (cl.field_among f (fields_with fs gv))) b;
+        type_is = ap (λ c. cond c (Some (closed T)) (cl.field_among f (fields_with fs no_atoms))) b;
         closed_is = k.closed_is;
       }) j
 
-  fields_put : (fs : Fields) (xs : FieldValues) (f : List ℕ) (q : ℕ × Ty) (y : Value) → fields_have av xs fs ≡ true → FieldsSeen fs xs → fields_with fs av ≡ fields_with fs gv → BuiltFields d xs → numbered f fs ≡ Some q → InType d av y q.1 → FieldPut fs q f xs y
+  fields_put : (fs : Fields) (xs : FieldValues) (f : List ℕ) (q : ℕ × Ty) (y : Value) → fields_have av xs fs ≡ true → FieldsSeen fs xs → fields_with fs av ≡ fields_with fs no_atoms → BuiltFields d xs → numbered f fs ≡ Some q → InType d av y q.1 → FieldPut fs q f xs y
   fields_put no_field xs f q y h s c b e j = none_some q e
   fields_put (field i T fs) no_value_of f q y h s c b e j = no h
   fields_put (field i T fs) (value_of_field g x xs) f q y h s c b e j =
       let p = both (bytes_eq g i) (has_type av x T && fields_have av xs fs) h in
       let r = both (has_type av x T) (fields_have av xs fs) p.1 in
       put_here (bytes_eq i f) fs i g f T x y xs q (numbered f fs) refl
-      (record { named_so = p.0; has_it = r.0; seen = s.0; built = b.0; closed_is = sym (member.same_first i i (type_with T av) (type_with T gv) (fields_with fs av) (fields_with fs gv) c) })
+      (record { named_so = p.0; has_it = r.0; seen = s.0; built = b.0; closed_is = sym (member.same_first i i (type_with T av) (closed T) (fields_with fs av) (fields_with fs no_atoms) c) })
       r.1 s.1 b.1 e
-      (λ m l k. fields_put fs xs f m y r.1 s.1 (member.same_others i i (type_with T av) (type_with T gv) (fields_with fs av) (fields_with fs gv) c) b.1 l k) j
+      (λ m l k. fields_put fs xs f m y r.1 s.1 (member.same_others i i (type_with T av) (closed T) (fields_with fs av) (fields_with fs no_atoms) c) b.1 l k) j
 
   -- ---- members
 
@@ -200,12 +200,12 @@ module _ (d : List ℕ → Option Ty) (w : WellDeclared d) (av gv : Assignment) 
   member_put_in span (a_bitfield f) y x = with_bitfield span f y x
 
   -- a value of its type is kept by a field as it is
-  field_takes : (span : Span) (k : List ℕ) (V : Ty) (fs : Fields) (f : List ℕ) (y : Value) (U : Closed) → types k ≡ Some U → cl.fields_at U ≡ Some (fields_with fs gv) → cl.field_among f (fields_with fs gv) ≡ Some (type_with V gv) → type_with V gv ≡ type_with V av → InType d av y V → in_field types span k f y ≡ Good y
+  field_takes : (span : Span) (k : List ℕ) (V : Ty) (fs : Fields) (f : List ℕ) (y : Value) (U : Closed) → types k ≡ Some U → cl.fields_at U ≡ Some (fields_with fs no_atoms) → cl.field_among f (fields_with fs no_atoms) ≡ Some (closed V) → closed V ≡ type_with V av → InType d av y V → in_field types span k f y ≡ Good y
   field_takes span k V fs f y U e g t c i =
       ap (λ o. there span (field_type o f) >>= λ T. there span (kept (of_type T) y)) e
       ∙ ap (λ o. there span (cl_among f o) >>= λ T. there span (kept (of_type T) y)) g
       ∙ ap (λ o. there span o >>= λ T. there span (kept (of_type T) y)) t
-      ∙ ap (there span) (kept_under d av (of_type (type_with V gv)) V y c i)
+      ∙ ap (there span) (kept_under d av (of_type (closed V)) V y c i)
     where
       cl_among : List ℕ → Option ClosedFields → Option Closed
       cl_among f None = None
@@ -280,8 +280,8 @@ module _ (d : List ℕ → Option Ty) (w : WellDeclared d) (av gv : Assignment) 
       let v : Written d k (record_of k fs) = subst (λ gs. Written d k (record_of k gs)) same i.1.0.1 in
       field_by (record_of n fs) (record_with k xs) span (with_field types span f y (record_with k xs)) y (numbered f fs) m e
       (λ q l g.
-      let r = fields_put fs xs f q y p.1 (subst (λ gs. FieldsSeen gs xs) same i.1.0.2) (member.same_fields d w av tests right gv n fs t.0) i.1.1 l g in
-      let kept_so = field_takes span k q.1 fs f y (type_with (named k v.supers (record_of k fs)) gv) (ap (option_map (λ T. type_with T gv)) v.stands) refl r.type_is r.closed_is g in
+      let r = fields_put fs xs f q y p.1 (subst (λ gs. FieldsSeen gs xs) same i.1.0.2) (member.no_atoms_in d w av tests right n fs t.0) i.1.1 l g in
+      let kept_so = field_takes span k q.1 fs f y (closed (named k v.supers (record_of k fs))) (ap (option_map closed) v.stands) refl r.type_is r.closed_is g in
       record {
         after = record_with k r.after;
         first_is = ap (λ z. z >>= λ c. there span (option_map (λ ys. record_with k ys) (with_field_value f c xs))) kept_so ∙ ap (λ o. there span (option_map (λ ys. record_with k ys) o)) r.by_name;
@@ -296,8 +296,8 @@ module _ (d : List ℕ → Option Ty) (w : WellDeclared d) (av gv : Assignment) 
       let v : Written d k (exception_of k fs) = subst (λ gs. Written d k (exception_of k gs)) same b.1 in
       field_by (exception_of n fs) (exception_with own supers k xs) span (with_field types span f y (exception_with own supers k xs)) y (numbered f fs) m e
       (λ q l g.
-      let r = fields_put fs xs f q y p.1 (subst (λ gs. FieldsSeen gs xs) same b.2) (member.same_fields_of_exception d w av tests right gv n fs t.0) i.1.2 l g in
-      let kept_so = field_takes span k q.1 fs f y (type_with (named k v.supers (exception_of k fs)) gv) (ap (option_map (λ T. type_with T gv)) v.stands) refl r.type_is r.closed_is g in
+      let r = fields_put fs xs f q y p.1 (subst (λ gs. FieldsSeen gs xs) same b.2) (member.no_atoms_in_exception d w av tests right n fs t.0) i.1.2 l g in
+      let kept_so = field_takes span k q.1 fs f y (closed (named k v.supers (exception_of k fs))) (ap (option_map closed) v.stands) refl r.type_is r.closed_is g in
       record {
         after = exception_with own supers k r.after;
         first_is = ap (λ z. z >>= λ c. there span (option_map (λ ys. exception_with own supers k ys) (with_field_value f c xs))) kept_so ∙ ap (λ o. there span (option_map (λ ys. exception_with own supers k ys) o)) r.by_name;
@@ -451,19 +451,19 @@ module _ (env : Environment) (w : WellDeclared (types_in env.names)) (av : Assig
       both_then d av V T (field_of span f x) (places.field_in span n x) (λ q. updated env at ss y q >>= λ r. with_field (types_of env) span f r x) (λ q. places.updated env.limit true ps y q >>= λ r. with_field_in span n r x) g.same g.gives (λ q u j.
       let c = next at y q h b j in
       both_then d av V T (updated env at ss y q) (places.updated env.limit true ps y q) (λ r. with_field (types_of env) span f r x) (λ r. with_field_in span n r x) c.0 c.1 (λ r v k.
-      put_both d w av no_atoms tests right T x (with_field (types_of env) span f r x) (with_field_in span n r x) (member_put d w av no_atoms tests right span f T (a_field n V) x r t e i k)))
+      put_both d w av tests right T x (with_field (types_of env) span f r x) (with_field_in span n r x) (member_put d w av tests right span f T (a_field n V) x r t e i k)))
   field_step T U span f (a_bitfield n) ss ps t e next at y x h b i =
       let V = bits_wide (bitfield_width n) in
       let g = member_gives d w av tests right span f T (a_bitfield n) x t e i in
       both_then d av V T (field_of span f x) (bitfield_of span n x) (λ q. updated env at ss y q >>= λ r. with_field (types_of env) span f r x) (λ q. places.updated env.limit true ps y q >>= λ r. with_bitfield span n r x) g.same g.gives (λ q u j.
       let c = next at y q h b j in
       both_then d av V T (updated env at ss y q) (places.updated env.limit true ps y q) (λ r. with_field (types_of env) span f r x) (λ r. with_bitfield span n r x) c.0 c.1 (λ r v k.
-      put_both d w av no_atoms tests right T x (with_field (types_of env) span f r x) (with_bitfield span n r x) (member_put d w av no_atoms tests right span f T (a_bitfield n) x r t e i k)))
+      put_both d w av tests right T x (with_field (types_of env) span f r x) (with_bitfield span n r x) (member_put d w av tests right span f T (a_bitfield n) x r t e i k)))
 
   pub bitfields_step : (T U : Ty) (span : Span) (is : List Ident) (fs : List BitField) (ss : List Step) (ps : List places.Step) → Shaped d T → is_bits T ≡ true → bitfields_in is (view_of T) ≡ Ok fs → Updates (bits_wide (all_wide fs)) U ss ps → Updates T U (into_fields span is ∷ ss) (places.into_bitfields span fs ∷ ps)
   bitfields_step T U span is fs ss ps t k e next at y x h b i =
       let V = bits_wide (all_wide fs) in
-      let z = bits_in d w av no_atoms tests right T x t k i in
+      let z = bits_in d w av tests right T x t k i in
       let found : bitfields_in is z.view ≡ Ok fs = subst (λ v. bitfields_in is v ≡ Ok fs) z.view_is e in
       let are : bitfields_named span is x ≡ Good fs = ap (bitfields_named span is) z.is ∙ each_found d w av tests right span is z.view fs found in
       let g = bitfields_give d w av tests right env.limit span is T fs x t e k i in
@@ -474,8 +474,8 @@ module _ (env : Environment) (w : WellDeclared (types_in env.names)) (av : Assig
       both_then d av V T (updated env at ss y q) (places.updated env.limit true ps y q) (λ r. with_bitfields env.limit span fs r x) (λ r. with_bitfields env.limit span fs r x) c.0 c.1 (λ r v l. (
         refl,
         subst (λ u1. Gives d av T (with_bitfields env.limit span fs r u1)) (sym z.is)
-            (within_put d w av no_atoms tests right (nat_le (total_width qs) env.limit) T span qs r z.bits z.view
-            (bits_put d w av no_atoms tests right T span qs (width_of V) r z.bits z.view k (z.inside is fs found) (wide_constant d w av no_atoms tests right (all_wide fs) (total_width qs) (all_wide_is d w av no_atoms tests right fs)) l (subst (λ u1. InType d av u1 T) z.is i))),
+            (within_put d w av tests right (nat_le (total_width qs) env.limit) T span qs r z.bits z.view
+            (bits_put d w av tests right T span qs (width_of V) r z.bits z.view k (z.inside is fs found) (wide_constant d w av tests right (all_wide fs) (total_width qs) (all_wide_is d w av tests right fs)) l (subst (λ u1. InType d av u1 T) z.is i))),
       ))))
 
   slices_of_bits : (T U : Ty) (span : Span) (sl : List SliceShape) (zs : List Value) (list : List Slicing) (p : Polynomial) (ss : List Step) (ps : List places.Step) (at : Span) (y : Value) (bs : List Bool) (u : View) → is_bits T ≡ true → slicings sl zs ≡ Some list → width_at p av ≡ all_widths list → Updates (bits_of p []) U ss ps →
@@ -489,13 +489,13 @@ module _ (env : Environment) (w : WellDeclared (types_in env.names)) (av : Assig
       let q = plain_bits (read_bits qs bs) in
       let c = next at y q h b (bits_given d av tests right p (read_bits qs bs) (total_width qs) (all_widths list) e a.0 (bits_read bs qs a.1)) in
       both_then d av V T (updated env at ss y q) (places.updated env.limit true ps y q) (λ r. with_slices env.limit span sl zs r x) (λ r. with_slices env.limit span sl zs r x) c.0 c.1 (λ r v l.
-      let m = bits_put d w av no_atoms tests right T span qs p r bs u k a.1 (e ∙ a.0) l i in
+      let m = bits_put d w av tests right T span qs p r bs u k a.1 (e ∙ a.0) l i in
       (refl, subst (Gives d av T) (sym (ap (λ o. o >>= λ qs1. with_places span qs1 r x) is ∙ m.is)) m.belongs)))
 
   pub slices_step : (T U : Ty) (span : Span) (sl sh : List SliceShape) (zs : List Value) (list : List Slicing) (p : Polynomial) (ss : List Step) (ps : List places.Step) → sl ≡ sh → Shaped d T → is_bits T ≡ true → slicings sh zs ≡ Some list → width_at p av ≡ all_widths list → Updates (bits_of p []) U ss ps →
       Updates T U (into_slices span sl zs ∷ ss) (places.into_slices span sh zs ∷ ps)
   slices_step T U span sl sh zs list p ss ps same t k s e next at y x h b i =
-      let z = bits_in d w av no_atoms tests right T x t k i in
+      let z = bits_in d w av tests right T x t k i in
       subst (λ l. Both d av T (updated env at (into_slices span l zs ∷ ss) y x) (places.updated env.limit true (places.into_slices span sh zs ∷ ps) y x)) (sym same)
       (subst (λ u. Both d av T (updated env at (into_slices span sh zs ∷ ss) y u) (places.updated env.limit true (places.into_slices span sh zs ∷ ps) y u)) (sym z.is)
       (slices_of_bits T U span sh zs list p ss ps at y z.bits z.view k s e next h b (subst (λ u. InType d av u T) z.is i)))
@@ -504,4 +504,4 @@ module _ (env : Environment) (w : WellDeclared (types_in env.names)) (av : Assig
   element_step T V I U span v ss ps e k n next at y x h b i =
       both_then d av V T (element_of span x v) (element_of span x v) (λ q. updated env at ss y q >>= λ r. with_element span r x v) (λ q. places.updated env.limit true ps y q >>= λ r. with_element span r x v) refl (element_gives d av tests right span T I V x v e k i n) (λ q u j.
       let c = next at y q h b j in
-      both_then d av V T (updated env at ss y q) (places.updated env.limit true ps y q) (λ r. with_element span r x v) (λ r. with_element span r x v) c.0 c.1 (λ r z m. (refl, with_element_gives d w av no_atoms tests right span T V I x v r e k n i m)))
+      both_then d av V T (updated env at ss y q) (places.updated env.limit true ps y q) (λ r. with_element span r x v) (λ r. with_element span r x v) c.0 c.1 (λ r z m. (refl, with_element_gives d w av tests right span T V I x v r e k n i m)))

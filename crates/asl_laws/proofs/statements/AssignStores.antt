@@ -12,7 +12,7 @@ use Rattle.asl_rules.specs.values.Values.{Value, has, kind_of}
 use Rattle.asl_rules.specs.types.Views.{viewed, adopted, alike, same_widths}
 use Rattle.asl_rules.specs.runs.States.{Under, of_type, of_value, Binding, Core, kept}
 use Rattle.asl_rules.specs.private.Belonging.{has_type, InType}
-use Rattle.asl_rules.specs.private.Agreement.{IsUnder, IsKnown, CountsAs, Holds, HoldsGlobal, types_in, AllMatch, global_matches, local_matches, FrameMatches, IsPlain, AllPlain, AllFresh, Agrees}
+use Rattle.asl_rules.specs.private.Agreement.{IsUnder, IsKnown, CountsAs, Holds, HoldsGlobal, no_atoms, types_in, AllMatch, global_matches, local_matches, FrameMatches, IsPlain, AllPlain, AllFresh, Agrees}
 use Rattle.asl_rules.specs.runs.Plans.{Stuck, Immutable, Good, Bad}
 use Rattle.asl_rules.specs.runs.Pures.{◌>>=◌, there, known}
 use Rattle.asl_rules.specs.runs.Evaluation.{put_value, map_pure, stored_in, first_store, store}
@@ -130,27 +130,27 @@ module _ (av : Assignment) where
 
   -- ---- among the globals
 
-  outside_type : (d : List ℕ → Option Ty) (gv : Assignment) (u : Storage) (x : Value) (n : List ℕ) (b : Binding) → HoldsGlobal d gv n u b → InType d av x u.ty → InType d gv x u.ty
-  outside_type d gv u x n b k i =
-      let e : type_with u.ty av ≡ type_with u.ty gv = k.fixed av ∙ sym (k.fixed gv) in
+  outside_type : (d : List ℕ → Option Ty) (u : Storage) (x : Value) (n : List ℕ) (b : Binding) → HoldsGlobal d n u b → InType d av x u.ty → InType d no_atoms x u.ty
+  outside_type d u x n b k i =
+      let e : type_with u.ty av ≡ type_with u.ty no_atoms = k.fixed av ∙ sym (k.fixed no_atoms) in
       (subst (λ T. has x T ≡ true) e i.0, i.1, subst (λ T. viewed T x ≡ x) e i.2)
 
 module _ (av : Assignment) where
-  global_by : (d : List ℕ → Option Ty) (gv : Assignment) (span : Span) (name n : List ℕ) (x : Value) (s : Storage) (st : Standing) (es : List Entry) (bs : List Binding) → global_matches d gv n st bs (AllMatch d gv es) → cond (bytes_eq n name) (Some st) (standing_of name es) ≡ Some (Stored s) → s.is_mutable ≡ true → InType d av x s.ty →
-      ((cs : List Binding) → AllMatch d gv es cs → standing_of name es ≡ Some (Stored s) → StoredIn (AllMatch d gv es) span name x cs) → StoredIn (λ cs. global_matches d gv n st cs (AllMatch d gv es)) span name x bs
-  global_by d gv span name n x s Subprogram es bs k h m i next = next bs k (skip_other av (bytes_eq n name) Subprogram (standing_of name es) s refl h)
-  global_by d gv span name n x s (TypeName T) es bs k h m i next = next bs k (skip_other av (bytes_eq n name) (TypeName T) (standing_of name es) s refl h)
-  global_by d gv span name n x s (Label T y) es bs k h m i next = next bs k (skip_other av (bytes_eq n name) (Label T y) (standing_of name es) s refl h)
-  global_by d gv span name n x s (Stored u) es [] k h m i next = absurd k
-  global_by d gv span name n x s (Stored u) es (b ∷ bs) k h m i next =
-      step av d (AllMatch d gv es) (λ cs. global_matches d gv n (Stored u) cs (AllMatch d gv es)) (bytes_eq n name) span name n x s u b bs (standing_of name es) refl k.0.holds.name_is h
-      (λ e. (held_takes gv d span n u b x k.0.holds (ap (λ (t : Storage). t.is_mutable) e ∙ m) (outside_type av d gv u x n b k.0 (subst (λ (t : Storage). InType d av x t.ty) (sym e) i))).put_is)
-      (λ e. (record { holds = kept_holds gv d n u b x k.0.holds (ap (λ (t : Storage). t.is_mutable) e ∙ m) k.0.no_atom (outside_type av d gv u x n b k.0 (subst (λ (t : Storage). InType d av x t.ty) (sym e) i)); fixed = k.0.fixed; no_atom = k.0.no_atom }, k.1))
+  global_by : (d : List ℕ → Option Ty) (span : Span) (name n : List ℕ) (x : Value) (s : Storage) (st : Standing) (es : List Entry) (bs : List Binding) → global_matches d n st bs (AllMatch d es) → cond (bytes_eq n name) (Some st) (standing_of name es) ≡ Some (Stored s) → s.is_mutable ≡ true → InType d av x s.ty →
+      ((cs : List Binding) → AllMatch d es cs → standing_of name es ≡ Some (Stored s) → StoredIn (AllMatch d es) span name x cs) → StoredIn (λ cs. global_matches d n st cs (AllMatch d es)) span name x bs
+  global_by d span name n x s Subprogram es bs k h m i next = next bs k (skip_other av (bytes_eq n name) Subprogram (standing_of name es) s refl h)
+  global_by d span name n x s (TypeName T) es bs k h m i next = next bs k (skip_other av (bytes_eq n name) (TypeName T) (standing_of name es) s refl h)
+  global_by d span name n x s (Label T y) es bs k h m i next = next bs k (skip_other av (bytes_eq n name) (Label T y) (standing_of name es) s refl h)
+  global_by d span name n x s (Stored u) es [] k h m i next = absurd k
+  global_by d span name n x s (Stored u) es (b ∷ bs) k h m i next =
+      step av d (AllMatch d es) (λ cs. global_matches d n (Stored u) cs (AllMatch d es)) (bytes_eq n name) span name n x s u b bs (standing_of name es) refl k.0.holds.name_is h
+      (λ e. (held_takes no_atoms d span n u b x k.0.holds (ap (λ (t : Storage). t.is_mutable) e ∙ m) (outside_type av d u x n b k.0 (subst (λ (t : Storage). InType d av x t.ty) (sym e) i))).put_is)
+      (λ e. (record { holds = kept_holds no_atoms d n u b x k.0.holds (ap (λ (t : Storage). t.is_mutable) e ∙ m) k.0.no_atom (outside_type av d u x n b k.0 (subst (λ (t : Storage). InType d av x t.ty) (sym e) i)); fixed = k.0.fixed; no_atom = k.0.no_atom }, k.1))
       (λ cs w. (k.0, w)) (next bs k.1)
 
-  global_store : (d : List ℕ → Option Ty) (gv : Assignment) (span : Span) (name : List ℕ) (x : Value) (s : Storage) (es : List Entry) (bs : List Binding) → AllMatch d gv es bs → standing_of name es ≡ Some (Stored s) → s.is_mutable ≡ true → InType d av x s.ty → StoredIn (AllMatch d gv es) span name x bs
-  global_store d gv span name x s [] bs k h m i = none_some (Stored s) h
-  global_store d gv span name x s (e ∷ es) bs k h m i = global_by d gv span name e.name x s e.standing es bs k h m i (λ cs w z. global_store d gv span name x s es cs w z m i)
+  global_store : (d : List ℕ → Option Ty) (span : Span) (name : List ℕ) (x : Value) (s : Storage) (es : List Entry) (bs : List Binding) → AllMatch d es bs → standing_of name es ≡ Some (Stored s) → s.is_mutable ≡ true → InType d av x s.ty → StoredIn (AllMatch d es) span name x bs
+  global_store d span name x s [] bs k h m i = none_some (Stored s) h
+  global_store d span name x s (e ∷ es) bs k h m i = global_by d span name e.name x s e.standing es bs k h m i (λ cs w z. global_store d span name x s es cs w z m i)
 
   -- a name from outside is none of the frame
   record NotIn (span : Span) (name : List ℕ) (x : Value) (bs : List Binding) : Type 0 where
@@ -183,15 +183,15 @@ module _ (av : Assignment) where
   -- ---- in a state
 
   -- a store under a name, and in its place
-  pub record StoreSame (base : List Entry) (gv : Assignment) (names : List Entry) (c : Core) (span : Span) (name : List ℕ) (x : Value) : Type 0 where
+  pub record StoreSame (base names : List Entry) (c : Core) (span : Span) (name : List ℕ) (x : Value) : Type 0 where
     pub after : Core
     pub is : store span name x c ≡ Good after
     pub put_is : put span (slot_of name (layout_of names)) x (erased c) ≡ Good (erased after)
-    pub agrees : Agrees base gv names av after
+    pub agrees : Agrees base names av after
     pub around_is : around_of after ≡ around_of c
 
-  by_base : (base : List Entry) (gv : Assignment) (names : List Entry) (c : Core) (span : Span) (name : List ℕ) (x : Value) (s : Storage) (a : Agrees base gv names av c) → HasNames names c → (o : Option Standing) → standing_of name base ≡ o → standing_of name (base ++ a.locals) ≡ Some (Stored s) → s.is_mutable ≡ true → InType (types_in base) av x s.ty → StoreSame base gv names c span name x
-  by_base base gv names c span name x s a n None q h m i =
+  by_base : (base names : List Entry) (c : Core) (span : Span) (name : List ℕ) (x : Value) (s : Storage) (a : Agrees base names av c) → HasNames names c → (o : Option Standing) → standing_of name base ≡ o → standing_of name (base ++ a.locals) ≡ Some (Stored s) → s.is_mutable ≡ true → InType (types_in base) av x s.ty → StoreSame base names c span name x
+  by_base base names c span name x s a n None q h m i =
       let r = frame_store av (types_in base) span name x s a.locals c.frame a.frame a.plain (sym (behind base a.locals name q) ∙ h) m i in
       record {
         after = record c { frame = r.after };
@@ -199,12 +199,12 @@ module _ (av : Assignment) where
         put_is = ap (λ ns. put span (slot_among (place_of name ns) name (global_names names)) x (erased c)) n.frame
             ∙ ap (λ o. put span (slot_among o name (global_names names)) x (erased c)) r.place_is
             ∙ ap (λ o. known span (option_map (λ xs. record (erased c) { frame = xs }) o)) r.put_is;
-        agrees = record { locals = a.locals; names_are = a.names_are; fresh = a.fresh; plain = a.plain; frame = r.holds; globals = a.globals; handled = a.handled; callers = a.callers; outside = a.outside };
+        agrees = record { locals = a.locals; names_are = a.names_are; fresh = a.fresh; plain = a.plain; frame = r.holds; globals = a.globals; handled = a.handled; callers = a.callers };
         around_is = refl;
       }
-  by_base base gv names c span name x s a n (Some st) q h m i =
+  by_base base names c span name x s a n (Some st) q h m i =
       let z = absent_store (types_in base) span x base a.locals name st c.frame a.frame a.fresh q in
-      let r = global_store (types_in base) gv span name x s base c.globals a.globals (q ∙ sym (before_is base a.locals name st q) ∙ h) m i in
+      let r = global_store (types_in base) span name x s base c.globals a.globals (q ∙ sym (before_is base a.locals name st q) ∙ h) m i in
       record {
         after = record c { globals = r.after };
         is = ap (λ o. first_store span (λ bs. record c { frame = bs }) (λ bs. record c { globals = bs }) o (stored_in span name x c.globals)) z.is
@@ -214,10 +214,10 @@ module _ (av : Assignment) where
             ∙ ap (λ ns. put span (slot_among None name ns) x (erased c)) n.globals
             ∙ ap (λ i. put span (Global i) x (erased c)) r.number_is
             ∙ ap (λ o. known span (option_map (λ xs. record (erased c) { globals = xs }) o)) r.put_is;
-        agrees = record { locals = a.locals; names_are = a.names_are; fresh = a.fresh; plain = a.plain; frame = a.frame; globals = r.holds; handled = a.handled; callers = a.callers; outside = a.outside };
+        agrees = record { locals = a.locals; names_are = a.names_are; fresh = a.fresh; plain = a.plain; frame = a.frame; globals = r.holds; handled = a.handled; callers = a.callers };
         around_is = refl;
       }
 
-  pub store_same : (base : List Entry) (gv : Assignment) (names : List Entry) (c : Core) (span : Span) (name : List ℕ) (x : Value) (s : Storage) → AllOutside base → Agrees base gv names av c → standing_of name names ≡ Some (Stored s) → s.is_mutable ≡ true → InType (types_in base) av x s.ty → StoreSame base gv names c span name x
-  store_same base gv names c span name x s o a h m i =
-      by_base base gv names c span name x s a (has_names av base gv names c o a) (standing_of name base) refl (ap (standing_of name) (sym a.names_are) ∙ h) m i
+  pub store_same : (base names : List Entry) (c : Core) (span : Span) (name : List ℕ) (x : Value) (s : Storage) → AllOutside base → Agrees base names av c → standing_of name names ≡ Some (Stored s) → s.is_mutable ≡ true → InType (types_in base) av x s.ty → StoreSame base names c span name x
+  store_same base names c span name x s o a h m i =
+      by_base base names c span name x s a (has_names av base names c o a) (standing_of name base) refl (ap (standing_of name) (sym a.names_are) ∙ h) m i

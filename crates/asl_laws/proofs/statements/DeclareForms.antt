@@ -13,7 +13,7 @@ use Rattle.asl_syn.specs.declared.tree.Bind.TheVariants.{Single}
 use Rattle.asl_syn.specs.declared.tree.Alternative.TheOpen as st
 use Rattle.asl_syn.specs.declared.tree.Decl.{Decl}
 use Rattle.asl_rules.specs.Faults.{need}
-use Rattle.asl_rules.specs.declarations.Environments.{Environment}
+use Rattle.asl_rules.specs.declarations.Programs.{Environment}
 use Rattle.asl_rules.specs.Tests.{Tests, IsRight}
 use Rattle.asl_rules.specs.types.Types.{Ty, is_integer, misfit}
 use Rattle.asl_rules.specs.types.Closed.{Assignment, type_with, width_at}
@@ -65,18 +65,18 @@ use Rattle.asl_laws.proofs.statements.StmtForms.{here, Held, OutAct, ActSame, Ac
 use Rattle.asl_laws.proofs.statements.ForForms.{viewed_int}
 use Rattle.asl_laws.proofs.expressions.ExprForms.{env}
 
-module _ (tests : Tests) (right : IsRight tests) (ds : List Decl) (base : List Entry) (gv : Assignment) (subs : List Signature) (loose : Bool) (funcs : List TreeFunc) (w : WellNamed base) where
+module _ (tests : Tests) (right : IsRight tests) (ds : List Decl) (base : List Entry) (subs : List Signature) (loose : Bool) (funcs : List TreeFunc) (w : WellNamed base) where
   abbrev HeldAt : StmtClaim → Core → Type 0
-  HeldAt j c = Held tests right ds base gv subs loose funcs w j c
+  HeldAt j c = Held tests right ds base subs loose funcs w j c
 
   abbrev Both : StmtClaim → Does Exit → Runs Exit → Type 0
-  Both j p q = ActSame tests right ds base gv subs loose funcs w j true p q
+  Both j p q = ActSame tests right ds base subs loose funcs w j true p q
 
   abbrev spot : StmtClaim → Here
-  spot j = here tests right ds base gv subs loose funcs w j
+  spot j = here tests right ds base subs loose funcs w j
 
   abbrev pub environment_of : Environment
-  environment_of = env tests right ds base gv subs loose funcs w
+  environment_of = env tests right ds base subs loose funcs w
 
   -- ---- where a value is stored
 
@@ -117,11 +117,11 @@ module _ (tests : Tests) (right : IsRight tests) (ds : List Decl) (base : List E
     pub typed_is : typed tests e j.body.scope ≡ Ok d.value
     pub formed : WellFormed (types_in base) (type_declared kind d.written d.value.ty)
     pub over : Over (Below j.body.scope.names) (type_declared kind d.written d.value.ty)
-    pub placed : (x : Value) (c1 : Core) → InType (types_in base) j.present x d.value.ty → At tests base gv subs loose (spot j) c1 → Placed j.present t d.written (type_declared kind d.written d.value.ty) c1 x
+    pub placed : (x : Value) (c1 : Core) → InType (types_in base) j.present x d.value.ty → At tests base subs loose (spot j) c1 → Placed j.present t d.written (type_declared kind d.written d.value.ty) c1 x
 
   type_of_init : (j : StmtClaim) (c : Core) (e : Expr) (S : Typed) → HeldAt j c → typed tests e j.body.scope ≡ Ok S → WellFormed (types_in base) S.ty
   type_of_init j c e S held h =
-      typed_formed tests right (types_in base) (well_declared base w) e j.body.scope S (scope_good j.present base gv j.body.scope.names c w held.at.agrees) (subst (FormedSubs tests right (types_in base) (well_declared base w)) (sym held.at.subs_are) held.subs_formed) h
+      typed_formed tests right (types_in base) (well_declared base w) e j.body.scope S (scope_good j.present base j.body.scope.names c w held.at.agrees) (subst (FormedSubs tests right (types_in base) (well_declared base w)) (sym held.at.subs_are) held.subs_formed) h
 
   init_over : (j : StmtClaim) (c : Core) (kind : LocalKind) (t : Option TypeExpr) (e : Expr) (d : Initialised) → initialised tests t e j.body.scope ≡ Ok d → HeldAt j c → Over (Below j.body.scope.names) (type_declared kind d.written d.value.ty)
   init_over j c kind t e d h held =
@@ -142,7 +142,7 @@ module _ (tests : Tests) (right : IsRight tests) (ds : List Decl) (base : List E
       let f = then_ok (fits tests W.value.ty o.value) _ d o.then in
       let S = o.value.typed in
       let T = W.value.ty in
-      let good = scope_good j.present base gv j.body.scope.names c w held.at.agrees in
+      let good = scope_good j.present base j.body.scope.names c w held.at.agrees in
       let g = operand_typed tests e j.body.scope o.value o.first in
       let wf = written_formed tests right (types_in base) (well_declared base w) t false j.body.scope W.value good W.first in
       let m : misfit tests S.ty T ≡ None = fitted_ok (misfit tests S.ty T) o.value.span tt f.first in
@@ -152,7 +152,7 @@ module _ (tests : Tests) (right : IsRight tests) (ds : List Decl) (base : List E
         typed_is = g;
         formed = wf;
         over = v;
-        placed = λ x c1 i a. placed_typed j.present t T c1 x (ap type_under (type_present tests right ds base gv subs loose funcs w j.body.scope j.present c1 t false W.value fixed_counts a.agrees W.first))
+        placed = λ x c1 i a. placed_typed j.present t T c1 x (ap type_under (type_present tests right ds base subs loose funcs w j.body.scope j.present c1 t false W.value fixed_counts a.agrees W.first))
             (satisfying_keeps j.present tests right (types_in base) (well_declared base w) S.ty T x (type_of_init j c e S held g) wf i.1 m i.0) i.1;
       }) (init_over j c kind (Some t) e d h held)
 
@@ -164,14 +164,14 @@ module _ (tests : Tests) (right : IsRight tests) (ds : List Decl) (base : List E
   Counts local.Var a o x = Unit {0}
 
   pub new_name : (kind : LocalKind) (names : List Entry) (a : Assignment) (name : List ℕ) (D : Ty) (o : Option Counted) (later : Assignment) (u : Under) (y : Value) (c : Core) → IsUnder (types_in base) a u D → InType (types_in base) a y D → SameOn names a later →
-      Over (Below names) D → WellFormed (types_in base) D → is_free name names ≡ true → Agrees base gv names a c → EachOver (Below names) names → Counts kind later o y → Agrees base gv (names ++ rules.declared kind name D o ∷ []) later (declared name y u (is_var kind) c)
+      Over (Below names) D → WellFormed (types_in base) D → is_free name names ≡ true → Agrees base names a c → EachOver (Below names) names → Counts kind later o y → Agrees base (names ++ rules.declared kind name D o ∷ []) later (declared name y u (is_var kind) c)
   new_name local.Let names av name D o later u y c v i s over formed free a each k =
       let e = type_same_on names av later D s over in
-      declared_agrees base gv names later c (rules.declared local.Let name D o) y u false (agrees_moved base gv names av later c each s a) free (refl, refl, λ m. no m)
+      declared_agrees base names later c (rules.declared local.Let name D o) y u false (agrees_moved base names av later c each s a) free (refl, refl, λ m. no m)
       (record { name_is = refl; under_is = under_moved (types_in base) av later u D e v; mutable_is = refl; well_formed = formed; belongs = in_type_moved (types_in base) av later D y e i; known = tt; counts = k })
   new_name local.Var names av name D o later u y c v i s over formed free a each k =
       let e = type_same_on names av later D s over in
-      declared_agrees base gv names later c (rules.declared local.Var name D o) y u true (agrees_moved base gv names av later c each s a) free (refl, refl, λ m. refl)
+      declared_agrees base names later c (rules.declared local.Var name D o) y u true (agrees_moved base names av later c each s a) free (refl, refl, λ m. refl)
       (record { name_is = refl; under_is = under_moved (types_in base) av later u D e v; mutable_is = refl; well_formed = formed; belongs = in_type_moved (types_in base) av later D y e i; known = tt; counts = tt })
 
   -- ---- one name
@@ -183,7 +183,7 @@ module _ (tests : Tests) (right : IsRight tests) (ds : List Decl) (base : List E
   stores_bare span o x c = lift (bare.declared span o tree.whole x c) c done_normal
 
   stored_same : (j : StmtClaim) (span : Span) (i : Ident) (kind : LocalKind) (t : Option TypeExpr) (wr : Option Ty) (D : Ty) (o : Option Counted) (later : Assignment) (x : Value) (c : Core) → (j.body.scope.names ++ rules.declared kind i.text D o ∷ []) ≡ j.done.names → (p : Placed j.present t wr D c x) → SameOn j.body.scope.names j.present later →
-      Over (Below j.body.scope.names) D → WellFormed (types_in base) D → is_free i.text j.body.scope.names ≡ true → At tests base gv subs loose (spot j) c → GoodScope tests j.body.scope → Counts kind later o p.value → Both j (stores span i kind t x c) (stores_bare span wr x (erased c))
+      Over (Below j.body.scope.names) D → WellFormed (types_in base) D → is_free i.text j.body.scope.names ≡ true → At tests base subs loose (spot j) c → GoodScope tests j.body.scope → Counts kind later o p.value → Both j (stores span i kind t x c) (stores_bare span wr x (erased c))
   stored_same j span i kind t wr D o later x c q p s over formed free a good k =
       let c2 = declared i.text p.value p.under (is_var kind) c in
       let e : bound_to environment_of span (Single (Bound i)) (is_var kind) t x c ≡ Good c2 =
@@ -191,7 +191,7 @@ module _ (tests : Tests) (right : IsRight tests) (ds : List Decl) (base : List E
       let f : bare.declared span wr tree.whole x (erased c) ≡ Good (erased c2) = ap (λ z. Good (with_next (z ∷ []) (erased c))) p.seen ∙ ap Good (sym (erased_declared i.text p.value p.under (is_var kind) c)) in
       subst (λ r. Both j (lift r c done_normal) (stores_bare span wr x (erased c))) (sym e)
       (subst (λ r. Both j (done_normal c2) (lift r (erased c) done_normal)) (sym f)
-      (refl, (refl, record { reached = refl; later = later; same = s; agrees = subst (λ ns. Agrees base gv ns later c2) q (new_name kind j.body.scope.names j.present i.text D o later p.under p.value c p.is_under p.belongs s over formed free a.agrees good.over.each k); around_is = a.around_is })))
+      (refl, (refl, record { reached = refl; later = later; same = s; agrees = subst (λ ns. Agrees base ns later c2) q (new_name kind j.body.scope.names j.present i.text D o later p.under p.value c p.is_under p.belongs s over formed free a.agrees good.over.each k); around_is = a.around_is })))
 
   int_seen : (av : Assignment) (o : Option Ty) (z : ℤ) → seen_where o (int z) ≡ int z
   int_seen av None z = refl
@@ -204,20 +204,20 @@ module _ (tests : Tests) (right : IsRight tests) (ds : List Decl) (base : List E
   one_plain : (j : StmtClaim) (span : Span) (i : Ident) (kind : LocalKind) (t : Option TypeExpr) (e : Expr) (d : Initialised) (o : Option Counted) (c : Core) → (j.body.scope.names ++ rules.declared kind i.text (type_declared kind d.written d.value.ty) o ∷ []) ≡ j.done.names → Says j kind t e d → is_free i.text j.body.scope.names ≡ true → HeldAt j c →
       ((x : Value) → Counts kind j.present o x) → Whole j span i kind t e d c
   one_plain j span i kind t e d o c q s free held k =
-      operand tests right base gv subs loose (spot j) (OutAct tests right ds base gv subs loose funcs w j true) e d.value c (λ x c1. stores span i kind t x c1) (λ x c1. stores_bare span d.written x c1) s.typed_is held.at
+      operand tests right base subs loose (spot j) (OutAct tests right ds base subs loose funcs w j true) e d.value c (λ x c1. stores span i kind t x c1) (λ x c1. stores_bare span d.written x c1) s.typed_is held.at
       (λ x c1 v a. let p = s.placed x c1 v a in stored_same j span i kind t d.written (type_declared kind d.written d.value.ty) o j.present x c1 q p (λ n l. refl) s.over s.formed free a held.scope_good (k p.value))
 
   one_counted : (j : StmtClaim) (span : Span) (i : Ident) (t : Option TypeExpr) (e : Expr) (d : Initialised) (r : Result Width Fault) (b : Bool) (c : Core) → (j.body.scope.names ++ rules.declared local.Let i.text (type_declared local.Let d.written d.value.ty) (Some (counted_as r b (next_atom j.body.scope.names))) ∷ []) ≡ j.done.names →
       (found tests e).width j.body.scope ≡ r → is_integer (type_declared local.Let d.written d.value.ty) ≡ true → Says j local.Let t e d → is_free i.text j.body.scope.names ≡ true → HeldAt j c → Whole j span i local.Let t e d c
   one_counted j span i t e d (Ok W) b c q g n s free held =
-      operand_also tests right base gv subs loose (spot j) (OutAct tests right ds base gv subs loose funcs w j true) e d.value (of_width W) c (λ x c1. stores span i local.Let t x c1) (λ x c1. stores_bare span d.written x c1) s.typed_is g held.at
+      operand_also tests right base subs loose (spot j) (OutAct tests right ds base subs loose funcs w j true) e d.value (of_width W) c (λ x c1. stores span i local.Let t x c1) (λ x c1. stores_bare span d.written x c1) s.typed_is g held.at
       (λ x c1 v l a. let p = s.placed x c1 v a in
       stored_same j span i local.Let t d.written (type_declared local.Let d.written d.value.ty) (Some (record { poly = W.poly; has_atom = b })) j.present x c1 q p (λ m k. refl) s.over s.formed free a held.scope_good
       (sym p.seen ∙ ap (seen_where d.written) l.0 ∙ int_seen j.present d.written (width_at W.poly j.present), l.1, l.2))
   one_counted j span i t e d (Err f) b c q g n s free held =
       let D = type_declared local.Let d.written d.value.ty in
       let m = next_atom j.body.scope.names in
-      operand tests right base gv subs loose (spot j) (OutAct tests right ds base gv subs loose funcs w j true) e d.value c (λ x c1. stores span i local.Let t x c1) (λ x c1. stores_bare span d.written x c1) s.typed_is held.at
+      operand tests right base subs loose (spot j) (OutAct tests right ds base subs loose funcs w j true) e d.value c (λ x c1. stores span i local.Let t x c1) (λ x c1. stores_bare span d.written x c1) s.typed_is held.at
       (λ x c1 v a. let p = s.placed x c1 v a in
       let z = is_int (types_in base) j.present tests right D p.value n p.belongs in
       stored_same j span i local.Let t d.written D (Some (atom_at m)) (extended m z.0 j.present) x c1 q p (extended_same j.body.scope.names z.0 j.present) s.over s.formed free a held.scope_good
@@ -240,7 +240,7 @@ module _ (tests : Tests) (right : IsRight tests) (ds : List Decl) (base : List E
   pub unmoved : (c : Core) → erased c ≡ with_next [] (erased c)
   unmoved c = ap (λ xs. record (erased c) { frame = xs }) (sym (append_nil (values_of c.frame)))
 
-  pub single_acted : (j : StmtClaim) (span : Span) (kind : LocalKind) (i : Ident) (t : Option TypeExpr) (e : Expr) (c : Core) → bind_rule tests span kind (Single (Bound i)) t e j.body.scope ≡ Ok j.done → HeldAt j c → Acted tests right ds base gv subs loose funcs w j true (st.Local span kind (Single (Bound i)) t e) c
+  pub single_acted : (j : StmtClaim) (span : Span) (kind : LocalKind) (i : Ident) (t : Option TypeExpr) (e : Expr) (c : Core) → bind_rule tests span kind (Single (Bound i)) t e j.body.scope ≡ Ok j.done → HeldAt j c → Acted tests right ds base subs loose funcs w j true (st.Local span kind (Single (Bound i)) t e) c
   single_acted j span kind i t e c h held =
       let G = j.body.scope in
       let d = bind_ok (initialised tests t e G) _ j.done h in
@@ -249,16 +249,16 @@ module _ (tests : Tests) (right : IsRight tests) (ds : List Decl) (base : List E
       let names = G.names ++ rules.declared kind i.text D (initialised_as tests D e G) ∷ [] in
       let act = tree.Declare span d.value.written tree.whole d.value.value.tree in
       let k = d.value.value.effect in
-      acted tests right ds base gv subs loose funcs w j true (st.Local span kind (Single (Bound i)) t e) c (done names k act) (ended_is G.class span true k names act j.done f.then) refl
+      acted tests right ds base subs loose funcs w j true (st.Local span kind (Single (Bound i)) t e) c (done names k act) (ended_is G.class span true k names act j.done f.then) refl
       (λ z. one_same kind j span i t e d.value c (ap (λ (y : Done). y.names) z) (init_says j c kind t e d.value d.first held) (need_ok (is_free i.text G.names) T01 i.span tt f.first) held)
 
-  pub none_acted : (j : StmtClaim) (span : Span) (kind : LocalKind) (at : Span) (t : Option TypeExpr) (e : Expr) (c : Core) → bind_rule tests span kind (Single (Unbound at)) t e j.body.scope ≡ Ok j.done → HeldAt j c → Acted tests right ds base gv subs loose funcs w j true (st.Local span kind (Single (Unbound at)) t e) c
+  pub none_acted : (j : StmtClaim) (span : Span) (kind : LocalKind) (at : Span) (t : Option TypeExpr) (e : Expr) (c : Core) → bind_rule tests span kind (Single (Unbound at)) t e j.body.scope ≡ Ok j.done → HeldAt j c → Acted tests right ds base subs loose funcs w j true (st.Local span kind (Single (Unbound at)) t e) c
   none_acted j span kind at t e c h held =
       let G = j.body.scope in
       let d = bind_ok (initialised tests t e G) _ j.done h in
       let act = tree.Declare span d.value.written tree.nothing d.value.value.tree in
       let k = d.value.value.effect in
       let s = init_says j c kind t e d.value d.first held in
-      acted tests right ds base gv subs loose funcs w j true (st.Local span kind (Single (Unbound at)) t e) c (done G.names k act) (ended_is G.class span true k G.names act j.done d.then) refl
-      (λ z. operand tests right base gv subs loose (spot j) (OutAct tests right ds base gv subs loose funcs w j true) e d.value.value c (λ x c1. done_normal c1) (λ x c1. lift (bare.declared span d.value.written tree.nothing x c1) c1 done_normal) s.typed_is held.at
-      (λ x c1 v a. (unmoved c1, (refl, ends_here tests right ds base gv subs loose funcs w j c1 (done G.names k act) z refl a))))
+      acted tests right ds base subs loose funcs w j true (st.Local span kind (Single (Unbound at)) t e) c (done G.names k act) (ended_is G.class span true k G.names act j.done d.then) refl
+      (λ z. operand tests right base subs loose (spot j) (OutAct tests right ds base subs loose funcs w j true) e d.value.value c (λ x c1. done_normal c1) (λ x c1. lift (bare.declared span d.value.written tree.nothing x c1) c1 done_normal) s.typed_is held.at
+      (λ x c1 v a. (unmoved c1, (refl, ends_here tests right ds base subs loose funcs w j c1 (done G.names k act) z refl a))))

@@ -128,34 +128,34 @@ pub viewed_int : (C : Closed) (z : ℤ) → viewed C (int z) ≡ int z
 viewed_int (cl.named n supers C) z = viewed_int C z
 viewed_int C z = refl
 
-module _ (tests : Tests) (right : IsRight tests) (ds : List Decl) (base : List Entry) (gv : Assignment) (subs : List Signature) (loose : Bool) (funcs : List TreeFunc) (w : WellNamed base) where
+module _ (tests : Tests) (right : IsRight tests) (ds : List Decl) (base : List Entry) (subs : List Signature) (loose : Bool) (funcs : List TreeFunc) (w : WellNamed base) where
   abbrev HeldAt : StmtClaim → Core → Type 0
-  HeldAt j c = Held tests right ds base gv subs loose funcs w j c
+  HeldAt j c = Held tests right ds base subs loose funcs w j c
 
   abbrev Both : StmtClaim → Bool → Does Exit → Runs Exit → Type 0
-  Both j b p q = ActSame tests right ds base gv subs loose funcs w j b p q
+  Both j b p q = ActSame tests right ds base subs loose funcs w j b p q
 
   abbrev spot : StmtClaim → Here
-  spot j = here tests right ds base gv subs loose funcs w j
+  spot j = here tests right ds base subs loose funcs w j
 
   -- ---- a list in whose scope a name stands before it
 
-  cut_behind : (j : StmtClaim) (entry : Entry) (names : List Entry) (a : Assignment) (c c1 : Core) → HeldAt j c → Longer (j.body.scope.names ++ entry ∷ []) names → Agrees base gv names a c1 → Agrees base gv j.body.scope.names a (frames.cut (length c.frame) c1)
+  cut_behind : (j : StmtClaim) (entry : Entry) (names : List Entry) (a : Assignment) (c c1 : Core) → HeldAt j c → Longer (j.body.scope.names ++ entry ∷ []) names → Agrees base names a c1 → Agrees base j.body.scope.names a (frames.cut (length c.frame) c1)
   cut_behind j entry names a c c1 held m k =
-      cut_agrees base gv j.body.scope.names (entry ∷ m.more) j.present a c c1 held.at.agrees (subst (λ ns. Agrees base gv ns a c1) (m.is ∙ append_assoc j.body.scope.names (entry ∷ []) m.more) k)
+      cut_agrees base j.body.scope.names (entry ∷ m.more) j.present a c c1 held.at.agrees (subst (λ ns. Agrees base ns a c1) (m.is ∙ append_assoc j.body.scope.names (entry ∷ []) m.more) k)
 
   with_entry : (j : StmtClaim) (entry : Entry) (x : Value) (u : Under) (a : Assignment) (l : Listed) (ss : List Stmt) (c : Core) → block (map (found_stmt tests) ss) (body_names j.body (j.body.scope.names ++ entry ∷ [])) ≡ Ok l →
-      HeldAt j c → j.body.scope.names ≡ j.done.names → SameOn j.body.scope.names j.present a → Agrees base gv (j.body.scope.names ++ entry ∷ []) a (declared entry.name x u false c) → GoodScope tests (with_names j.body.scope (j.body.scope.names ++ entry ∷ [])) →
+      HeldAt j c → j.body.scope.names ≡ j.done.names → SameOn j.body.scope.names j.present a → Agrees base (j.body.scope.names ++ entry ∷ []) a (declared entry.name x u false c) → GoodScope tests (with_names j.body.scope (j.body.scope.names ++ entry ∷ [])) →
       Both j true (scope_from frames (length c.frame) ss (declared entry.name x u false c)) (scope_from in_bare (length (values_of c.frame)) (acts_of l.acts) (with_next (x ∷ []) (erased c)))
   with_entry j entry x u a l ss c h held names s more good =
       let c2 = declared entry.name x u false c in
       let later = j.body.scope.names ++ entry ∷ [] in
       let longer : Longer j.body.scope.names later = record { more = entry ∷ []; is = refl } in
       let n = length c.frame in
-      let held2 = held_onward tests right ds base gv subs loose funcs w j later a c c2 held longer s more held.at.around_is good in
+      let held2 = held_onward tests right ds base subs loose funcs w j later a c c2 held longer s more held.at.around_is good in
       subst (λ d. Both j true (scope_from frames n ss c2) (scope_from in_bare (length (values_of c.frame)) (acts_of l.acts) d)) (erased_declared entry.name x u false c)
       (subst (λ m. Both j true (scope_from frames n ss c2) (scope_from in_bare m (acts_of l.acts) (erased c2))) (sym (values_length c.frame))
-      (list_same tests right ds base gv subs loose funcs w (onward tests right ds base gv subs loose funcs w j later a) Pure l
+      (list_same tests right ds base subs loose funcs w (onward tests right ds base subs loose funcs w j later a) Pure l
       (λ y z c1. Both j true (leave frames n y c1) (leave in_bare n z (erased c1)))
       (λ y c1. Both j true (Raise y c1) (Raise y (erased c1))) ss c2 h held2
       (λ c1 m q. (
@@ -166,13 +166,13 @@ module _ (tests : Tests) (right : IsRight tests) (ds : List Decl) (base : List E
             reached = refl;
             later = m.later;
             same = same_on_both j.body.scope.names j.present a m.later s (same_on_fewer j.body.scope.names later a m.later longer m.same);
-            agrees = subst (λ ns. Agrees base gv ns m.later (frames.cut n c1)) names (cut_behind j entry l.names m.later c c1 held (list_longer tests ss Pure (body_names j.body later) l h) m.agrees);
+            agrees = subst (λ ns. Agrees base ns m.later (frames.cut n c1)) names (cut_behind j entry l.names m.later c c1 held (list_longer tests ss Pure (body_names j.body later) l h) m.agrees);
             around_is = m.around_is;
           },
         ),
       ))
-      (λ o c1 m. (erased_cut n c1, (refl, record { gives = m.gives; more = []; later = m.later; agrees = subst (λ ns. Agrees base gv ns m.later (frames.cut n c1)) (sym (append_nil j.body.scope.names)) (cut_agrees base gv j.body.scope.names (entry ∷ m.more) j.present m.later c c1 held.at.agrees (subst (λ ns. Agrees base gv ns m.later c1) (append_assoc j.body.scope.names (entry ∷ []) m.more) m.agrees)); around_is = m.around_is })))
-      (λ y c1 m. (refl, refl, record { raised = m.raised; writes = m.writes; more = entry ∷ m.more; later = m.later; same = same_on_both j.body.scope.names j.present a m.later s (same_on_fewer j.body.scope.names later a m.later longer m.same); agrees = subst (λ ns. Agrees base gv ns m.later c1) (append_assoc j.body.scope.names (entry ∷ []) m.more) m.agrees; around_is = m.around_is }))))
+      (λ o c1 m. (erased_cut n c1, (refl, record { gives = m.gives; more = []; later = m.later; agrees = subst (λ ns. Agrees base ns m.later (frames.cut n c1)) (sym (append_nil j.body.scope.names)) (cut_agrees base j.body.scope.names (entry ∷ m.more) j.present m.later c c1 held.at.agrees (subst (λ ns. Agrees base ns m.later c1) (append_assoc j.body.scope.names (entry ∷ []) m.more) m.agrees)); around_is = m.around_is })))
+      (λ y c1 m. (refl, refl, record { raised = m.raised; writes = m.writes; more = entry ∷ m.more; later = m.later; same = same_on_both j.body.scope.names j.present a m.later s (same_on_fewer j.body.scope.names later a m.later longer m.same); agrees = subst (λ ns. Agrees base ns m.later c1) (append_assoc j.body.scope.names (entry ∷ []) m.more) m.agrees; around_is = m.around_is }))))
 
   -- ---- turns
 
@@ -194,9 +194,9 @@ module _ (tests : Tests) (right : IsRight tests) (ds : List Decl) (base : List E
       let s = extended_same names z j.present in
       let e : type_with T j.present ≡ type_with T later = type_same_on names j.present later T s (index_type_over tests _ d a b j.body.scope held.scope_good.over.counts) in
       let in_it : InType (types_in base) later (int z) T = (subst (λ C. has (int z) C ≡ true) e t, tt, viewed_int (type_with T later) z) in
-      let before = agrees_moved base gv names j.present later c held.scope_good.over.each s held.at.agrees in
-      let more : Agrees base gv (names ++ entry ∷ []) later (declared i.text (int z) (of_value (int z)) false c) =
-      declared_agrees base gv names later c entry (int z) (of_value (int z)) false before k.free (refl, refl, λ m. no m)
+      let before = agrees_moved base names j.present later c held.scope_good.over.each s held.at.agrees in
+      let more : Agrees base (names ++ entry ∷ []) later (declared i.text (int z) (of_value (int z)) false c) =
+      declared_agrees base names later c entry (int z) (of_value (int z)) false before k.free (refl, refl, λ m. no m)
       (record { name_is = refl; under_is = in_it; mutable_is = refl; well_formed = k.formed; belongs = in_it; known = tt; counts = atom_counts later n (int z) z refl (extended_at n z j.present) }) in
       with_entry j entry (int z) (of_value (int z)) later l ss c k.listed held k.names s more (index_scope tests i d a b j.body k.free held.scope_good)
 
@@ -204,8 +204,8 @@ module _ (tests : Tests) (right : IsRight tests) (ds : List Decl) (base : List E
   type_later j d a b later c held s = type_same_on j.body.scope.names j.present later (index_type tests d a b j.body.scope) s (index_type_over tests _ d a b j.body.scope held.scope_good.over.counts)
 
   -- the end of a loop, or one turn more
-  or_next : (x : Bool) (j : StmtClaim) (p : Does Exit) (q : Runs Exit) (c : Core) → At tests base gv subs loose (spot j) c → j.body.scope.names ≡ j.done.names → (x ≡ false → Both j true p q) → Both j true (choose x (Ret Normal c) p) (choose x (Ret Normal (erased c)) q)
-  or_next true j p q c at names f = normal_end tests right ds base gv subs loose funcs w j c at names
+  or_next : (x : Bool) (j : StmtClaim) (p : Does Exit) (q : Runs Exit) (c : Core) → At tests base subs loose (spot j) c → j.body.scope.names ≡ j.done.names → (x ≡ false → Both j true p q) → Both j true (choose x (Ret Normal c) p) (choose x (Ret Normal (erased c)) q)
+  or_next true j p q c at names f = normal_end tests right ds base subs loose funcs w j c at names
   or_next false j p q c at names f = f refl
 
   index_turn_same : (n : ℕ) (j : StmtClaim) (span : Span) (i : Ident) (d : Direction) (a b : Expr) (ss : List Stmt) (l : Listed) (first last z : ℤ) (c : Core) → Loop j i d a b ss l → Holds_index j.present (index_type tests d a b j.body.scope) d first last → Between d first last z → HeldAt j c →
@@ -213,12 +213,12 @@ module _ (tests : Tests) (right : IsRight tests) (ds : List Decl) (base : List E
   index_turn_same zero j span i d a b ss l first last z c k t p held = (refl, refl, held.at.agrees.globals)
   index_turn_same (suc n) j span i d a b ss l first last z c k t p held =
       let next = next_index d z in
-      after_same tests right ds base gv subs loose funcs w j
+      after_same tests right ds base subs loose funcs w j
       (λ c2. choose (is_past d last next) (Ret Normal c2) (index_turn frames (with_index i) span d last ss n next c2))
       (λ c2. choose (is_past d last next) (Ret Normal c2) (index_turn in_bare indexed span d last (acts_of l.acts) n next c2))
       (scope_with frames (with_index i (int z)) ss c) (scope_with in_bare (indexed (int z)) (acts_of l.acts) (erased c)) c held k.names
       (λ later c1 s h.
-      let j1 = later_on tests right ds base gv subs loose funcs w j later in
+      let j1 = later_on tests right ds base subs loose funcs w j later in
       or_next (is_past d last next) j1 (index_turn frames (with_index i) span d last ss n next c1) (index_turn in_bare indexed span d last (acts_of l.acts) n next (erased c1)) c1 h.at k.names
       (λ e. index_turn_same n j1 span i d a b ss l first last next c1 (record { free = k.free; listed = k.listed; formed = k.formed; names = k.names })
       (λ m q. subst (λ C. has (int m) C ≡ true) (type_later j d a b later c held s) (t m q)) (next_between d first last z p e) h))
@@ -240,26 +240,26 @@ module _ (tests : Tests) (right : IsRight tests) (ds : List Decl) (base : List E
 
   -- what follows the bounds, where the index lies in its type
   abbrev Follows : StmtClaim → Direction → Ty → Go → Run_on → Type 0
-  Follows j d T k l = (first last : ℤ) (c : Core) → Holds_index j.present T d first last → At tests base gv subs loose (spot j) c → Both j true (k (int first) (int last) c) (l (int first) (int last) (erased c))
+  Follows j d T k l = (first last : ℤ) (c : Core) → Holds_index j.present T d first last → At tests base subs loose (spot j) c → Both j true (k (int first) (int last) c) (l (int first) (int last) (erased c))
 
   bounds_known : (j : StmtClaim) (d : Direction) (T : Ty) (a b : Expr) (S U : Typed) (p q : Asked) (y v : ℤ) (c : Core) (k : Go) (l : Run_on) → typed tests a j.body.scope ≡ Ok S → typed tests b j.body.scope ≡ Ok U → Answers tests p a j.body.scope → Answers tests q b j.body.scope →
       ((x : Value) → GivesAsked (types_in base) j.present p x → x ≡ int y) →
       ((x : Value) → GivesAsked (types_in base) j.present q x → x ≡ int v) →
       ((x z : Value) → GivesAsked (types_in base) j.present p x → GivesAsked (types_in base) j.present q z → Holds_index j.present T d y v)
-      → At tests base gv subs loose (spot j) c → Follows j d T k l →
+      → At tests base subs loose (spot j) c → Follows j d T k l →
       Both j true (Eval a c (λ x c1. Eval b c1 (λ z c2. k x z c2))) (Eval S.tree (erased c) (λ x c1. Eval U.tree c1 (λ z c2. l x z c2)))
   bounds_known j d T a b S U p q y v c k l h g m n f r t at next =
-      operand_also tests right base gv subs loose (spot j) (OutAct tests right ds base gv subs loose funcs w j true) a S p c (λ x c1. Eval b c1 (λ z c2. k x z c2)) (λ x c1. Eval U.tree c1 (λ z c2. l x z c2)) h m at
-      (λ x c1 i o a1. operand_also tests right base gv subs loose (spot j) (OutAct tests right ds base gv subs loose funcs w j true) b U q c1 (λ z c2. k x z c2) (λ z c2. l x z c2) g n a1
+      operand_also tests right base subs loose (spot j) (OutAct tests right ds base subs loose funcs w j true) a S p c (λ x c1. Eval b c1 (λ z c2. k x z c2)) (λ x c1. Eval U.tree c1 (λ z c2. l x z c2)) h m at
+      (λ x c1 i o a1. operand_also tests right base subs loose (spot j) (OutAct tests right ds base subs loose funcs w j true) b U q c1 (λ z c2. k x z c2) (λ z c2. l x z c2) g n a1
       (λ z c2 i2 o2 a2. subst (λ x1. Both j true (k x1 z c2) (l x1 z (erased c2))) (sym (f x o))
       (subst (λ z1. Both j true (k (int y) z1 c2) (l (int y) z1 (erased c2))) (sym (r z o2)) (next y v c2 (t x z o o2) a2))))
 
   bounds_unknown : (j : StmtClaim) (d : Direction) (T : Ty) (a b : Expr) (S U : Typed) (c : Core) (k : Go) (l : Run_on) → typed tests a j.body.scope ≡ Ok S → typed tests b j.body.scope ≡ Ok U → is_integer S.ty ≡ true → is_integer U.ty ≡ true →
-      ((first last : ℤ) → Holds_index j.present T d first last) → At tests base gv subs loose (spot j) c → Follows j d T k l →
+      ((first last : ℤ) → Holds_index j.present T d first last) → At tests base subs loose (spot j) c → Follows j d T k l →
       Both j true (Eval a c (λ x c1. Eval b c1 (λ z c2. k x z c2))) (Eval S.tree (erased c) (λ x c1. Eval U.tree c1 (λ z c2. l x z c2)))
   bounds_unknown j d T a b S U c k l h g m n t at next =
-      operand tests right base gv subs loose (spot j) (OutAct tests right ds base gv subs loose funcs w j true) a S c (λ x c1. Eval b c1 (λ z c2. k x z c2)) (λ x c1. Eval U.tree c1 (λ z c2. l x z c2)) h at
-      (λ x c1 i a1. operand tests right base gv subs loose (spot j) (OutAct tests right ds base gv subs loose funcs w j true) b U c1 (λ z c2. k x z c2) (λ z c2. l x z c2) g a1
+      operand tests right base subs loose (spot j) (OutAct tests right ds base subs loose funcs w j true) a S c (λ x c1. Eval b c1 (λ z c2. k x z c2)) (λ x c1. Eval U.tree c1 (λ z c2. l x z c2)) h at
+      (λ x c1 i a1. operand tests right base subs loose (spot j) (OutAct tests right ds base subs loose funcs w j true) b U c1 (λ z c2. k x z c2) (λ z c2. l x z c2) g a1
       (λ z c2 i2 a2.
       let y = is_int (types_in base) j.present tests right S.ty x m i in
       let v = is_int (types_in base) j.present tests right U.ty z n i2 in
@@ -275,7 +275,7 @@ module _ (tests : Tests) (right : IsRight tests) (ds : List Decl) (base : List E
   by_direction Up a b G = range_rule (found tests a) (found tests b) G
   by_direction Down a b G = range_rule (found tests b) (found tests a) G
 
-  up_bounds : (x : Bool) (j : StmtClaim) (r : WrittenPart) (a b : Expr) (S U : Typed) (c : Core) (k : Go) (l : Run_on) → (if_of x a b j.body.scope) ≡ Ok r → typed tests a j.body.scope ≡ Ok S → typed tests b j.body.scope ≡ Ok U → At tests base gv subs loose (spot j) c → Follows j Up (integer_of (r.part ∷ [])) k l → Bounds j Up (integer_of (r.part ∷ [])) a b S U c k l
+  up_bounds : (x : Bool) (j : StmtClaim) (r : WrittenPart) (a b : Expr) (S U : Typed) (c : Core) (k : Go) (l : Run_on) → (if_of x a b j.body.scope) ≡ Ok r → typed tests a j.body.scope ≡ Ok S → typed tests b j.body.scope ≡ Ok U → At tests base subs loose (spot j) c → Follows j Up (integer_of (r.part ∷ [])) k l → Bounds j Up (integer_of (r.part ∷ [])) a b S U c k l
   up_bounds true j r a b S U c k l e h g at =
       let u = bind_ok (width tests a j.body.scope) _ r e in
       let v = bind_ok (width tests b j.body.scope) _ r u.then in
@@ -291,7 +291,7 @@ module _ (tests : Tests) (right : IsRight tests) (ds : List Decl) (base : List E
       (λ x z o o2 i p. in_range_of j.present (Int u.value.number) (Int v.value.number) _ _ i (whole_ceiling u.value.number)
       (whole_floor v.value.number) p.0 p.1) at)
 
-  down_bounds : (x : Bool) (j : StmtClaim) (r : WrittenPart) (a b : Expr) (S U : Typed) (c : Core) (k : Go) (l : Run_on) → (if_of x b a j.body.scope) ≡ Ok r → typed tests a j.body.scope ≡ Ok S → typed tests b j.body.scope ≡ Ok U → At tests base gv subs loose (spot j) c → Follows j Down (integer_of (r.part ∷ [])) k l → Bounds j Down (integer_of (r.part ∷ [])) a b S U c k l
+  down_bounds : (x : Bool) (j : StmtClaim) (r : WrittenPart) (a b : Expr) (S U : Typed) (c : Core) (k : Go) (l : Run_on) → (if_of x b a j.body.scope) ≡ Ok r → typed tests a j.body.scope ≡ Ok S → typed tests b j.body.scope ≡ Ok U → At tests base subs loose (spot j) c → Follows j Down (integer_of (r.part ∷ [])) k l → Bounds j Down (integer_of (r.part ∷ [])) a b S U c k l
   down_bounds true j r a b S U c k l e h g at =
       let v = bind_ok (width tests b j.body.scope) _ r e in
       let u = bind_ok (width tests a j.body.scope) _ r v.then in
@@ -307,7 +307,7 @@ module _ (tests : Tests) (right : IsRight tests) (ds : List Decl) (base : List E
       (λ x z o o2 i p. in_range_of j.present (Int v.value.number) (Int u.value.number) _ _ i (whole_ceiling v.value.number)
       (whole_floor u.value.number) p.0 p.1) at)
 
-  bounds_by : (j : StmtClaim) (d : Direction) (a b : Expr) (S U : Typed) (c : Core) (k : Go) (l : Run_on) → typed tests a j.body.scope ≡ Ok S → typed tests b j.body.scope ≡ Ok U → is_integer S.ty ≡ true → is_integer U.ty ≡ true → At tests base gv subs loose (spot j) c →
+  bounds_by : (j : StmtClaim) (d : Direction) (a b : Expr) (S U : Typed) (c : Core) (k : Go) (l : Run_on) → typed tests a j.body.scope ≡ Ok S → typed tests b j.body.scope ≡ Ok U → is_integer S.ty ≡ true → is_integer U.ty ≡ true → At tests base subs loose (spot j) c →
       (r : Result WrittenPart Fault) → by_direction d a b j.body.scope ≡ r → Follows j d (of_range r) k l → Bounds j d (of_range r) a b S U c k l
   bounds_by j d a b S U c k l h g m n at (Err x) e next = bounds_unknown j d (integer_of []) a b S U c k l h g m n (λ y v i p. refl) at next
   bounds_by j Up a b S U c k l h g m n at (Ok r) e next = up_bounds ((found tests a).has_atom j.body.scope || (found tests b).has_atom j.body.scope) j r a b S U c k l e h g at next
@@ -330,7 +330,7 @@ module _ (tests : Tests) (right : IsRight tests) (ds : List Decl) (base : List E
   index_formed Up a b G h = range_formed a b G (range_rule (found tests a) (found tests b) G) h refl
   index_formed Down a b G h = range_formed b a G (range_rule (found tests b) (found tests a) G) h refl
 
-  pub for_acted : (j : StmtClaim) (span : Span) (i : Ident) (a : Expr) (d : Direction) (b : Expr) (limit : Option Expr) (ss : List Stmt) (c : Core) → for_rule tests span i a d b limit (map (found_stmt tests) ss) j.body ≡ Ok j.done → HeldAt j c → Acted tests right ds base gv subs loose funcs w j true (st.For span i a d b limit ss) c
+  pub for_acted : (j : StmtClaim) (span : Span) (i : Ident) (a : Expr) (d : Direction) (b : Expr) (limit : Option Expr) (ss : List Stmt) (c : Core) → for_rule tests span i a d b limit (map (found_stmt tests) ss) j.body ≡ Ok j.done → HeldAt j c → Acted tests right ds base subs loose funcs w j true (st.For span i a d b limit ss) c
   for_acted j span i a d b limit ss c h held =
       let o = bind_ok (operand_of tests a j.body.scope) _ j.done h in
       let q = bind_ok (operand_of tests b j.body.scope) _ j.done o.then in
@@ -346,13 +346,13 @@ module _ (tests : Tests) (right : IsRight tests) (ds : List Decl) (base : List E
       let act : Act = tree.For span S.tree d U.tree (tree_in m.value) l.value.acts in
       let G = j.body.scope in
       let T = index_type tests d a b G in
-      acted tests right ds base gv subs loose funcs w j true (st.For span i a d b limit ss) c (done G.names e act) (ended_is G.class span (all_together Pure (S.effect ∷ U.effect ∷ [])) e G.names act j.done f.then) refl
+      acted tests right ds base subs loose funcs w j true (st.For span i a d b limit ss) c (done G.names e act) (ended_is G.class span (all_together Pure (S.effect ∷ U.effect ∷ [])) e G.names act j.done f.then) refl
       (λ z.
-      let loop : Loop j i d a b ss l.value = record { free = need_ok (is_free i.text G.names) T01 i.span tt r2.then; listed = l.first; formed = index_formed d a b G (counts_held j.present base gv G.names c held.at.agrees); names = ap (λ (y : Done). y.names) z } in
+      let loop : Loop j i d a b ss l.value = record { free = need_ok (is_free i.text G.names) T01 i.span tt r2.then; listed = l.first; formed = index_formed d a b G (counts_held j.present base G.names c held.at.agrees); names = ap (λ (y : Done). y.names) z } in
       let go : Go = λ x y c2. limited span limit c2 (λ n c3. lift (whole_number span x) c3 (λ first. lift (whole_number span y) c3 (λ last. index_turns frames (with_index i) span d last ss n first c3))) in
       let run_on : Run_on = λ x y c2. limited span (tree_in m.value) c2 (λ n c3. lift (whole_number span x) c3 (λ first. lift (whole_number span y) c3 (λ last. index_turns in_bare indexed span d last (acts_of l.value.acts) n first c3))) in
       let next : Follows j d T go run_on = λ first last c2 t at.
-      limit_same tests right ds base gv subs loose funcs w j span limit m.value c2 (λ n c3. index_turns frames (with_index i) span d last ss n first c3) (λ n c3. index_turns in_bare indexed span d last (acts_of l.value.acts) n first c3) m.first f.first
-      (moved tests right ds base gv subs loose funcs w j c c2 held at) (λ n c3 k. index_turns_same n j span i d a b ss l.value first last c3 loop t k) in
+      limit_same tests right ds base subs loose funcs w j span limit m.value c2 (λ n c3. index_turns frames (with_index i) span d last ss n first c3) (λ n c3. index_turns in_bare indexed span d last (acts_of l.value.acts) n first c3) m.first f.first
+      (moved tests right ds base subs loose funcs w j c c2 held at) (λ n c3 k. index_turns_same n j span i d a b ss l.value first last c3 loop t k) in
       bounds_by j d a b S U c go run_on (operand_typed tests a G o.value o.first) (operand_typed tests b G q.value q.first) (need_ok (is_integer S.ty) T05 o.value.span tt r1.first) (need_ok (is_integer U.ty) T05 q.value.span tt r2.first) held.at
       (by_direction d a b G) refl (subst (λ V. Follows j d V go run_on) (sym (type_is d a b G)) next))

@@ -61,8 +61,8 @@ same_rest [] xs ys h = h
 same_rest (e ∷ base) xs ys h = same_rest base xs ys (ap rest_of h)
 
 -- the names of a state that is cut again to the height of one before
-pub cut_agrees : (base : List Entry) (gv : Assignment) (names more : List Entry) (a b : Assignment) (c c1 : Core) → Agrees base gv names a c → Agrees base gv (names ++ more) b c1 → Agrees base gv names b (frames.cut (length c.frame) c1)
-cut_agrees base gv names more a b c c1 h k =
+pub cut_agrees : (base names more : List Entry) (a b : Assignment) (c c1 : Core) → Agrees base names a c → Agrees base (names ++ more) b c1 → Agrees base names b (frames.cut (length c.frame) c1)
+cut_agrees base names more a b c c1 h k =
     let same : k.locals ≡ h.locals ++ more = same_rest base k.locals (h.locals ++ more) (sym k.names_are ∙ ap (λ ns. ns ++ more) h.names_are ∙ append_assoc base h.locals more) in
     record {
       locals = h.locals;
@@ -73,7 +73,6 @@ cut_agrees base gv names more a b c c1 h k =
       globals = k.globals;
       handled = k.handled;
       callers = k.callers;
-      outside = k.outside;
     }
 
 values_take : (n : ℕ) (bs : List Binding) → values_of (take n bs) ≡ take n (values_of bs)
@@ -92,12 +91,12 @@ pub fall_same : (ss : List Stmt) → all_fall (map falls ss) ≡ falls_through s
 fall_same [] = refl
 fall_same (s ∷ ss) = ap (λ b. falls s && b) (fall_same ss)
 
-module _ (tests : Tests) (right : IsRight tests) (ds : List Decl) (base : List Entry) (gv : Assignment) (subs : List Signature) (loose : Bool) (funcs : List TreeFunc) (w : WellNamed base) where
+module _ (tests : Tests) (right : IsRight tests) (ds : List Decl) (base : List Entry) (subs : List Signature) (loose : Bool) (funcs : List TreeFunc) (w : WellNamed base) where
   abbrev HeldAt : StmtClaim → Core → Type 0
-  HeldAt j c = Held tests right ds base gv subs loose funcs w j c
+  HeldAt j c = Held tests right ds base subs loose funcs w j c
 
   abbrev At_here : StmtClaim → Core → Type 0
-  At_here j c = At tests base gv subs loose (here tests right ds base gv subs loose funcs w j) c
+  At_here j c = At tests base subs loose (here tests right ds base subs loose funcs w j) c
 
   -- after something that keeps the names
   pub moved : (j : StmtClaim) (c c1 : Core) → HeldAt j c → At_here j c1 → HeldAt j c1
@@ -110,7 +109,7 @@ module _ (tests : Tests) (right : IsRight tests) (ds : List Decl) (base : List E
   onward j names later = record { body = body_names j.body names; done = j.done; present = later; params = j.params; around = j.around }
 
   -- what holds behind a statement, with the names that are visible there
-  pub held_onward : (j : StmtClaim) (names : List Entry) (later : Assignment) (c c1 : Core) → HeldAt j c → Longer j.body.scope.names names → SameOn j.body.scope.names j.present later → Agrees base gv names later c1 → around_of c1 ≡ j.around → GoodScope tests (with_names j.body.scope names) → HeldAt (onward j names later) c1
+  pub held_onward : (j : StmtClaim) (names : List Entry) (later : Assignment) (c c1 : Core) → HeldAt j c → Longer j.body.scope.names names → SameOn j.body.scope.names j.present later → Agrees base names later c1 → around_of c1 ≡ j.around → GoodScope tests (with_names j.body.scope names) → HeldAt (onward j names later) c1
   held_onward j names later c c1 k l s a h g = record {
     at = record { agrees = a; subs_are = k.at.subs_are; around_is = h; stands = k.at.stands; counted = inr (ruled tests (with_names j.body.scope names) g) };
     subs_formed = k.subs_formed;
@@ -125,50 +124,50 @@ module _ (tests : Tests) (right : IsRight tests) (ds : List Decl) (base : List E
   pub record Ending (j : StmtClaim) (names : List Entry) (c : Core) : Type 0 where
     pub later : Assignment
     pub same : SameOn j.body.scope.names j.present later
-    pub agrees : Agrees base gv names later c
+    pub agrees : Agrees base names later c
     pub around_is : around_of c ≡ j.around
 
-  pub over_back : (j : StmtClaim) (names : List Entry) (later : Assignment) (x : Value) (c : Core) → Longer j.body.scope.names names → SameOn j.body.scope.names j.present later → Over tests base gv subs loose j.body.scope.class names later j.around x c → Over tests base gv subs loose j.body.scope.class j.body.scope.names j.present j.around x c
+  pub over_back : (j : StmtClaim) (names : List Entry) (later : Assignment) (x : Value) (c : Core) → Longer j.body.scope.names names → SameOn j.body.scope.names j.present later → Over tests base subs loose j.body.scope.class names later j.around x c → Over tests base subs loose j.body.scope.class j.body.scope.names j.present j.around x c
   over_back j names later x c l s o = record {
     raised = o.raised;
     writes = o.writes;
     more = l.more ++ o.more;
     later = o.later;
     same = same_on_both j.body.scope.names j.present later o.later s (same_on_fewer j.body.scope.names names later o.later l o.same);
-    agrees = subst (λ ns. Agrees base gv ns o.later c) (ap (λ ns. ns ++ o.more) l.is ∙ append_assoc j.body.scope.names l.more o.more) o.agrees;
+    agrees = subst (λ ns. Agrees base ns o.later c) (ap (λ ns. ns ++ o.more) l.is ∙ append_assoc j.body.scope.names l.more o.more) o.agrees;
     around_is = o.around_is;
   }
 
-  left_back : (j : StmtClaim) (names : List Entry) (later : Assignment) (o : Option Value) (c : Core) → Longer j.body.scope.names names → Left tests base gv subs loose (onward j names later) o c → Left tests base gv subs loose j o c
+  left_back : (j : StmtClaim) (names : List Entry) (later : Assignment) (o : Option Value) (c : Core) → Longer j.body.scope.names names → Left tests base subs loose (onward j names later) o c → Left tests base subs loose j o c
   left_back j names later o c l e = record {
     gives = e.gives;
     more = l.more ++ e.more;
     later = e.later;
-    agrees = subst (λ ns. Agrees base gv ns e.later c) (ap (λ ns. ns ++ e.more) l.is ∙ append_assoc j.body.scope.names l.more e.more) e.agrees;
+    agrees = subst (λ ns. Agrees base ns e.later c) (ap (λ ns. ns ++ e.more) l.is ∙ append_assoc j.body.scope.names l.more e.more) e.agrees;
     around_is = e.around_is;
   }
 
   next_same : (j : StmtClaim) (d : Done) (b : Bool) (ss : List Stmt) (m : Listed) (Q : Exit → Exit → Core → Type 0) (R : Value → Core → Type 0) →
-      ((c1 : Core) → Ended tests base gv subs loose (with_done j d) b c1 → Twins (our tests base gv subs loose) Q R (plan.in_order ss c1) (plan.in_order (acts_of m.acts) (erased c1))) →
-      ((o : Option Value) (c1 : Core) → Left tests base gv subs loose j o c1 → Q (Returned o) (Returned o) c1) →
-      (x : Exit) (c1 : Core) → Ends tests base gv subs loose (with_done j d) b x c1 → Twins (our tests base gv subs loose) Q R (go_on x c1 (plan.in_order ss)) (go_on x (erased c1) (plan.in_order (acts_of m.acts)))
+      ((c1 : Core) → Ended tests base subs loose (with_done j d) b c1 → Twins (our tests base subs loose) Q R (plan.in_order ss c1) (plan.in_order (acts_of m.acts) (erased c1))) →
+      ((o : Option Value) (c1 : Core) → Left tests base subs loose j o c1 → Q (Returned o) (Returned o) c1) →
+      (x : Exit) (c1 : Core) → Ends tests base subs loose (with_done j d) b x c1 → Twins (our tests base subs loose) Q R (go_on x c1 (plan.in_order ss)) (go_on x (erased c1) (plan.in_order (acts_of m.acts)))
   next_same j d b ss m Q R again returned Normal c1 e = again c1 e
   next_same j d b ss m Q R again returned (Returned o) c1 e = (refl, returned o c1 (record { gives = e.gives; more = e.more; later = e.later; agrees = e.agrees; around_is = e.around_is }))
 
   pub list_same : (j : StmtClaim) (k : Effect) (l : Listed) (Q : Exit → Exit → Core → Type 0) (R : Value → Core → Type 0) (ss : List Stmt) (c : Core) → in_order (map (found_stmt tests) ss) k j.body ≡ Ok l → HeldAt j c →
       ((c1 : Core) → Ending j l.names c1 → falls_through ss ≡ true → Q Normal Normal c1) →
-      ((o : Option Value) (c1 : Core) → Left tests base gv subs loose j o c1 → Q (Returned o) (Returned o) c1) →
-      ((x : Value) (c1 : Core) → Over tests base gv subs loose j.body.scope.class j.body.scope.names j.present j.around x c1 → R x c1) →
-      Twins (our tests base gv subs loose) Q R (plan.in_order ss c) (plan.in_order (acts_of l.acts) (erased c))
+      ((o : Option Value) (c1 : Core) → Left tests base subs loose j o c1 → Q (Returned o) (Returned o) c1) →
+      ((x : Value) (c1 : Core) → Over tests base subs loose j.body.scope.class j.body.scope.names j.present j.around x c1 → R x c1) →
+      Twins (our tests base subs loose) Q R (plan.in_order ss c) (plan.in_order (acts_of l.acts) (erased c))
   list_same j k l Q R [] c h held normal returned thrown =
       let e : listed j.body.scope.names k _ ≡ l = ok_ok _ l h in
-      subst (λ (z : Listed). ((c1 : Core) → Ending j z.names c1 → Q Normal Normal c1) → Twins (our tests base gv subs loose) Q R (plan.in_order [] c) (plan.in_order (acts_of z.acts) (erased c))) e
+      subst (λ (z : Listed). ((c1 : Core) → Ending j z.names c1 → Q Normal Normal c1) → Twins (our tests base subs loose) Q R (plan.in_order [] c) (plan.in_order (acts_of z.acts) (erased c))) e
       (λ go. (refl, go c (record { later = j.present; same = λ n b. refl; agrees = held.at.agrees; around_is = held.at.around_is }))) (λ c1 n. normal c1 n refl)
   list_same j k l Q R (s ∷ ss) c h held normal returned thrown =
       let b = bind_ok (found_stmt tests s j.body) _ l h in
       let d = b.value in
       let r = bind_ok (in_order (map (found_stmt tests) ss) (greater k d.effect) (body_names j.body d.names)) _ l b.then in
-      subst (λ (z : Listed). ((c1 : Core) → Ending j z.names c1 → falls_through (s ∷ ss) ≡ true → Q Normal Normal c1) → Twins (our tests base gv subs loose) Q R (plan.in_order (s ∷ ss) c) (plan.in_order (acts_of z.acts) (erased c))) (ok_ok (act_first d.act r.value) l r.then)
+      subst (λ (z : Listed). ((c1 : Core) → Ending j z.names c1 → falls_through (s ∷ ss) ≡ true → Q Normal Normal c1) → Twins (our tests base subs loose) Q R (plan.in_order (s ∷ ss) c) (plan.in_order (acts_of z.acts) (erased c))) (ok_ok (act_first d.act r.value) l r.then)
       (λ go. (
         one (with_done j d, falls s),
         (record { is_found = b.first; is_tree = refl; at = held.at; formed = held.formed; result_is = held.result_is; handles = held.handles; scope_good = held.scope_good; body_is = held.body_is }, refl),
@@ -185,29 +184,29 @@ module _ (tests : Tests) (right : IsRight tests) (ds : List Decl) (base : List E
 
   -- a list with a scope of its own, in a statement that declares nothing
   pub block_same : (j : StmtClaim) (b : Bool) (l : Listed) (ss : List Stmt) (c : Core) → block (map (found_stmt tests) ss) j.body ≡ Ok l → HeldAt j c → j.body.scope.names ≡ j.done.names → (falls_through ss ≡ true → b ≡ true) →
-      ActSame tests right ds base gv subs loose funcs w j b (scope frames ss c) (scope in_bare (acts_of l.acts) (erased c))
+      ActSame tests right ds base subs loose funcs w j b (scope frames ss c) (scope in_bare (acts_of l.acts) (erased c))
   block_same j b l ss c h held names f =
-      subst (λ n. ActSame tests right ds base gv subs loose funcs w j b (scope_from frames (length c.frame) ss c) (scope_from in_bare n (acts_of l.acts) (erased c))) (sym (values_length c.frame))
-      (list_same j Pure l (λ x y c1. Twins (our tests base gv subs loose) (OutAct tests right ds base gv subs loose funcs w j b) (Throws tests right base gv subs loose (here tests right ds base gv subs loose funcs w j)) (leave frames (length c.frame) x c1) (leave in_bare (length c.frame) y (erased c1)))
-      (λ x c1. Twins (our tests base gv subs loose) (OutAct tests right ds base gv subs loose funcs w j b) (Throws tests right base gv subs loose (here tests right ds base gv subs loose funcs w j)) (Raise x c1) (Raise x (erased c1))) ss c h held
-      (λ c1 n g. (erased_cut (length c.frame) c1, (refl, record { reached = f g; later = n.later; same = n.same; agrees = subst (λ ns. Agrees base gv ns n.later (frames.cut (length c.frame) c1)) names (cut_again c1 n.later (list_longer tests ss Pure j.body l h) n.agrees); around_is = n.around_is })))
-      (λ o c1 n. (erased_cut (length c.frame) c1, (refl, record { gives = n.gives; more = []; later = n.later; agrees = subst (λ ns. Agrees base gv ns n.later (frames.cut (length c.frame) c1)) (sym (append_nil j.body.scope.names)) (cut_agrees base gv j.body.scope.names n.more j.present n.later c c1 held.at.agrees n.agrees); around_is = n.around_is })))
+      subst (λ n. ActSame tests right ds base subs loose funcs w j b (scope_from frames (length c.frame) ss c) (scope_from in_bare n (acts_of l.acts) (erased c))) (sym (values_length c.frame))
+      (list_same j Pure l (λ x y c1. Twins (our tests base subs loose) (OutAct tests right ds base subs loose funcs w j b) (Throws tests right base subs loose (here tests right ds base subs loose funcs w j)) (leave frames (length c.frame) x c1) (leave in_bare (length c.frame) y (erased c1)))
+      (λ x c1. Twins (our tests base subs loose) (OutAct tests right ds base subs loose funcs w j b) (Throws tests right base subs loose (here tests right ds base subs loose funcs w j)) (Raise x c1) (Raise x (erased c1))) ss c h held
+      (λ c1 n g. (erased_cut (length c.frame) c1, (refl, record { reached = f g; later = n.later; same = n.same; agrees = subst (λ ns. Agrees base ns n.later (frames.cut (length c.frame) c1)) names (cut_again c1 n.later (list_longer tests ss Pure j.body l h) n.agrees); around_is = n.around_is })))
+      (λ o c1 n. (erased_cut (length c.frame) c1, (refl, record { gives = n.gives; more = []; later = n.later; agrees = subst (λ ns. Agrees base ns n.later (frames.cut (length c.frame) c1)) (sym (append_nil j.body.scope.names)) (cut_agrees base j.body.scope.names n.more j.present n.later c c1 held.at.agrees n.agrees); around_is = n.around_is })))
       (λ x c1 n. (refl, refl, n)))
     where
-      cut_again : (c1 : Core) (later : Assignment) → Longer j.body.scope.names l.names → Agrees base gv l.names later c1 → Agrees base gv j.body.scope.names later (frames.cut (length c.frame) c1)
-      cut_again c1 later m a = cut_agrees base gv j.body.scope.names m.more j.present later c c1 held.at.agrees (subst (λ ns. Agrees base gv ns later c1) m.is a)
+      cut_again : (c1 : Core) (later : Assignment) → Longer j.body.scope.names l.names → Agrees base l.names later c1 → Agrees base j.body.scope.names later (frames.cut (length c.frame) c1)
+      cut_again c1 later m a = cut_agrees base j.body.scope.names m.more j.present later c c1 held.at.agrees (subst (λ ns. Agrees base ns later c1) m.is a)
 
   -- ---- conditions
 
   pub condition_same : (j : StmtClaim) (Q : Exit → Exit → Core → Type 0) (span : Span) (e : Expr) (o : Operand) (c : Core) (first second : Core → Does Exit) (third fourth : BareCore → Runs Exit) → operand_of tests e j.body.scope ≡ Ok o → condition o ≡ Ok tt → At_here j c →
-      ((c1 : Core) → At_here j c1 → Same tests right base gv subs loose (here tests right ds base gv subs loose funcs w j) Q (first c1) (third (erased c1))) →
-      ((c1 : Core) → At_here j c1 → Same tests right base gv subs loose (here tests right ds base gv subs loose funcs w j) Q (second c1) (fourth (erased c1))) →
-      Same tests right base gv subs loose (here tests right ds base gv subs loose funcs w j) Q (asked span e c first second) (asked span o.typed.tree (erased c) third fourth)
+      ((c1 : Core) → At_here j c1 → Same tests right base subs loose (here tests right ds base subs loose funcs w j) Q (first c1) (third (erased c1))) →
+      ((c1 : Core) → At_here j c1 → Same tests right base subs loose (here tests right ds base subs loose funcs w j) Q (second c1) (fourth (erased c1))) →
+      Same tests right base subs loose (here tests right ds base subs loose funcs w j) Q (asked span e c first second) (asked span o.typed.tree (erased c) third fourth)
   condition_same j Q span e o c first second third fourth h k a f g =
-      operand tests right base gv subs loose (here tests right ds base gv subs loose funcs w j) Q e o.typed c (λ x c1. lift (truth span x) c1 (λ b. choose b (first c1) (second c1))) (λ x c1. lift (truth span x) c1 (λ b. choose b (third c1) (fourth c1))) (operand_typed tests e j.body.scope o h) a
-      (λ x c1 i a1. truth_same tests right base gv subs loose (here tests right ds base gv subs loose funcs w j) Q span x o.typed.ty c1 (λ b. choose b (first c1) (second c1)) (λ b. choose b (third (erased c1)) (fourth (erased c1))) (need_ok (is_boolean o.typed.ty) T05 o.span tt k) i
+      operand tests right base subs loose (here tests right ds base subs loose funcs w j) Q e o.typed c (λ x c1. lift (truth span x) c1 (λ b. choose b (first c1) (second c1))) (λ x c1. lift (truth span x) c1 (λ b. choose b (third c1) (fourth c1))) (operand_typed tests e j.body.scope o h) a
+      (λ x c1 i a1. truth_same tests right base subs loose (here tests right ds base subs loose funcs w j) Q span x o.typed.ty c1 (λ b. choose b (first c1) (second c1)) (λ b. choose b (third (erased c1)) (fourth (erased c1))) (need_ok (is_boolean o.typed.ty) T05 o.span tt k) i
       (λ b. chosen b c1 a1))
     where
-      chosen : (b : Bool) (c1 : Core) → At_here j c1 → Same tests right base gv subs loose (here tests right ds base gv subs loose funcs w j) Q (choose b (first c1) (second c1)) (choose b (third (erased c1)) (fourth (erased c1)))
+      chosen : (b : Bool) (c1 : Core) → At_here j c1 → Same tests right base subs loose (here tests right ds base subs loose funcs w j) Q (choose b (first c1) (second c1)) (choose b (third (erased c1)) (fourth (erased c1)))
       chosen true c1 a1 = f c1 a1
       chosen false c1 a1 = g c1 a1

@@ -74,41 +74,41 @@ same_some : {A : Type 0} (x y : A) → Some x ≡ Some y → x ≡ y
 unfolding some_in
 same_some x y h = ap (some_in x) h
 
-module _ (tests : Tests) (right : IsRight tests) (ds : List Decl) (base : List Entry) (gv : Assignment) (subs : List Signature) (loose : Bool) (funcs : List TreeFunc) (w : WellNamed base) where
+module _ (tests : Tests) (right : IsRight tests) (ds : List Decl) (base : List Entry) (subs : List Signature) (loose : Bool) (funcs : List TreeFunc) (w : WellNamed base) where
   -- where a statement stands
   abbrev pub here : StmtClaim → Here
   here j = record { scope = j.body.scope; present = j.present; around = j.around }
 
   -- what holds where it begins
   pub record Held (j : StmtClaim) (c : Core) : Type 0 where
-    pub at : At tests base gv subs loose (here j) c
+    pub at : At tests base subs loose (here j) c
     pub subs_formed : FormedSubs tests right (types_in base) (well_declared base w) subs
     pub formed : FormedResult (types_in base) j.body.result
     pub result_is : (b : Assignment) → SameOn j.body.scope.names j.present b → result_at b j.body.result ≡ result_at j.params j.body.result
     pub handles : j.body.handles ≡ true → Handles j.around.handled
-    pub body_is : Bound tests base gv subs loose (IsBodyOf subs j.body j.around.live)
+    pub body_is : Bound tests base subs loose (IsBodyOf subs j.body j.around.live)
     pub scope_good : GoodScope tests j.body.scope
 
   abbrev pub OutAct : StmtClaim → Bool → Exit → Exit → Core → Type 0
-  OutAct j b x y c = (x ≡ y) × Ends tests base gv subs loose j b x c
+  OutAct j b x y c = (x ≡ y) × Ends tests base subs loose j b x c
 
   abbrev pub ActSame : StmtClaim → Bool → Does Exit → Runs Exit → Type 0
-  ActSame j b p q = Same tests right base gv subs loose (here j) (OutAct j b) p q
+  ActSame j b p q = Same tests right base subs loose (here j) (OutAct j b) p q
 
   -- one form: where it stands, and what it does
   pub record Acted (j : StmtClaim) (b : Bool) (layer : StmtLayer) (c : Core) : Type 0 where
     pub at : stmt_layer_span layer ≡ act_at j.done.act
-    pub does : ActSame j b (stmt_node (env tests right ds base gv subs loose funcs w) layer c) (act_node (program tests right ds base gv subs loose funcs w) j.done.act (erased c))
+    pub does : ActSame j b (stmt_node (env tests right ds base subs loose funcs w) layer c) (act_node (program tests right ds base subs loose funcs w) j.done.act (erased c))
 
-  pub acted : (j : StmtClaim) (b : Bool) (layer : StmtLayer) (c : Core) (d : Done) → d ≡ j.done → stmt_layer_span layer ≡ act_at d.act → (d ≡ j.done → ActSame j b (stmt_node (env tests right ds base gv subs loose funcs w) layer c) (act_node (program tests right ds base gv subs loose funcs w) d.act (erased c))) → Acted j b layer c
+  pub acted : (j : StmtClaim) (b : Bool) (layer : StmtLayer) (c : Core) (d : Done) → d ≡ j.done → stmt_layer_span layer ≡ act_at d.act → (d ≡ j.done → ActSame j b (stmt_node (env tests right ds base subs loose funcs w) layer c) (act_node (program tests right ds base subs loose funcs w) d.act (erased c))) → Acted j b layer c
   acted j b layer c d e at does = record {
     at = at ∙ ap (λ (z : Done). act_at z.act) e;
-    does = subst (λ (z : Done). ActSame j b (stmt_node (env tests right ds base gv subs loose funcs w) layer c) (act_node (program tests right ds base gv subs loose funcs w) z.act (erased c))) e (does e);
+    does = subst (λ (z : Done). ActSame j b (stmt_node (env tests right ds base subs loose funcs w) layer c) (act_node (program tests right ds base subs loose funcs w) z.act (erased c))) e (does e);
   }
 
   -- an end where the visible names are the same
-  pub ends_here : (j : StmtClaim) (c : Core) (d : Done) → d ≡ j.done → j.body.scope.names ≡ d.names → At tests base gv subs loose (here j) c → Ended tests base gv subs loose j true c
-  ends_here j c d e n a = record { reached = refl; later = j.present; same = λ m l. refl; agrees = subst (λ ns. Agrees base gv ns j.present c) (n ∙ ap (λ (z : Done). z.names) e) a.agrees; around_is = a.around_is }
+  pub ends_here : (j : StmtClaim) (c : Core) (d : Done) → d ≡ j.done → j.body.scope.names ≡ d.names → At tests base subs loose (here j) c → Ended tests base subs loose j true c
+  ends_here j c d e n a = record { reached = refl; later = j.present; same = λ m l. refl; agrees = subst (λ ns. Agrees base ns j.present c) (n ∙ ap (λ (z : Done). z.names) e) a.agrees; around_is = a.around_is }
 
   -- ---- each form
 
@@ -122,7 +122,7 @@ module _ (tests : Tests) (right : IsRight tests) (ds : List Decl) (base : List E
   abbrev pub in_class : Here → Scope → Here
   in_class H G = record { scope = G; present = H.present; around = H.around }
 
-  assert_by : (j : StmtClaim) (span : Span) (c : Core) (b : Bool) (d : Done) → d ≡ j.done → j.body.scope.names ≡ d.names → At tests base gv subs loose (here j) c → ActSame j true (choose b (done_normal c) (asserted span c)) (choose b (done_normal (erased c)) (asserted span (erased c)))
+  assert_by : (j : StmtClaim) (span : Span) (c : Core) (b : Bool) (d : Done) → d ≡ j.done → j.body.scope.names ≡ d.names → At tests base subs loose (here j) c → ActSame j true (choose b (done_normal c) (asserted span c)) (choose b (done_normal (erased c)) (asserted span (erased c)))
   assert_by j span c true d e n a = (refl, (refl, ends_here j c d e n a))
   assert_by j span c false d e n a = (refl, refl, a.agrees.globals)
 
@@ -134,16 +134,16 @@ module _ (tests : Tests) (right : IsRight tests) (ds : List Decl) (base : List E
       let S = o.value.typed in
       let d = done G.names S.effect (tree.Assert span S.tree) in
       acted j true (st.Assert span e) c d (ended_is G.class span true S.effect G.names (tree.Assert span S.tree) j.done b.then) refl
-      (λ i. operand_in tests right base gv subs loose (here j) (in_class (here j) (reading_scope G)) (OutAct j true) e S c (λ x c1. lift (truth span x) c1 (λ t. choose t (done_normal c1) (asserted span c1))) (λ x c1. lift (truth span x) c1 (λ t. choose t (done_normal c1) (asserted span c1))) (operand_typed tests e (reading_scope G) o.value o.first) (record { agrees = k.at.agrees; subs_are = k.at.subs_are; around_is = k.at.around_is; stands = stands_lesser tests base gv subs loose (lesser G.class Readonly) G.class j.around (lesser_below G.class) k.at.stands; counted = k.at.counted })
+      (λ i. operand_in tests right base subs loose (here j) (in_class (here j) (reading_scope G)) (OutAct j true) e S c (λ x c1. lift (truth span x) c1 (λ t. choose t (done_normal c1) (asserted span c1))) (λ x c1. lift (truth span x) c1 (λ t. choose t (done_normal c1) (asserted span c1))) (operand_typed tests e (reading_scope G) o.value o.first) (record { agrees = k.at.agrees; subs_are = k.at.subs_are; around_is = k.at.around_is; stands = stands_lesser tests base subs loose (lesser G.class Readonly) G.class j.around (lesser_below G.class) k.at.stands; counted = k.at.counted })
       (λ x c1 o.
-      thrown_lesser tests base gv subs loose (lesser G.class Readonly) G.class G.names j.present j.around x c1 (lesser_below G.class) o)
-      (λ x c1 v a1. truth_same tests right base gv subs loose (here j) (OutAct j true) span x S.ty c1 (λ t. choose t (done_normal c1) (asserted span c1)) (λ t. choose t (done_normal (erased c1)) (asserted span (erased c1))) (need_ok (is_boolean S.ty) T05 o.value.span tt b.first) v
+      thrown_lesser tests base subs loose (lesser G.class Readonly) G.class G.names j.present j.around x c1 (lesser_below G.class) o)
+      (λ x c1 v a1. truth_same tests right base subs loose (here j) (OutAct j true) span x S.ty c1 (λ t. choose t (done_normal c1) (asserted span c1)) (λ t. choose t (done_normal (erased c1)) (asserted span (erased c1))) (need_ok (is_boolean S.ty) T05 o.value.span tt b.first) v
       (λ t. assert_by j span c1 t d i refl (record { agrees = a1.agrees; subs_are = a1.subs_are; around_is = a1.around_is; stands = k.at.stands; counted = k.at.counted }))))
 
   -- ---- exits
 
-  left_here : (j : StmtClaim) (o : Option Value) (c : Core) → GivesResult (types_in base) j.params j.body.result o → At tests base gv subs loose (here j) c → Left tests base gv subs loose j o c
-  left_here j o c g a = record { gives = g; more = []; later = j.present; agrees = subst (λ ns. Agrees base gv ns j.present c) (sym (append_nil j.body.scope.names)) a.agrees; around_is = a.around_is }
+  left_here : (j : StmtClaim) (o : Option Value) (c : Core) → GivesResult (types_in base) j.params j.body.result o → At tests base subs loose (here j) c → Left tests base subs loose j o c
+  left_here j o c g a = record { gives = g; more = []; later = j.present; agrees = subst (λ ns. Agrees base ns j.present c) (sym (append_nil j.body.scope.names)) a.agrees; around_is = a.around_is }
 
   none_by : (j : StmtClaim) (span : Span) (c : Core) (T : Option Ty) → j.body.result ≡ T → return_rule tests span None j.body.scope T ≡ Ok j.done → Held j c → Acted j false (st.Return span None) c
   none_by j span c (Some T) q h k = err_ok (fault_of T18 span) j.done h
@@ -167,9 +167,9 @@ module _ (tests : Tests) (right : IsRight tests) (ds : List Decl) (base : List E
       let S = o.typed in
       let d = done G.names S.effect (tree.Return span (Some S.tree)) in
       let t = operand_typed tests e G o g in
-      let s = typed_formed tests right (types_in base) (well_declared base w) e G S (scope_good j.present base gv G.names c w k.at.agrees) (subst (FormedSubs tests right (types_in base) (well_declared base w)) (sym k.at.subs_are) k.subs_formed) t in
+      let s = typed_formed tests right (types_in base) (well_declared base w) e G S (scope_good j.present base G.names c w k.at.agrees) (subst (FormedSubs tests right (types_in base) (well_declared base w)) (sym k.at.subs_are) k.subs_formed) t in
       acted j false (st.Return span (Some e)) c d (ended_is G.class span true S.effect G.names (tree.Return span (Some S.tree)) j.done f.then) refl
-      (λ i. operand tests right base gv subs loose (here j) (OutAct j false) e S c (λ x c1. Ret (Returned (Some x)) c1) (λ x c1. Ret (Returned (Some x)) c1) t k.at
+      (λ i. operand tests right base subs loose (here j) (OutAct j false) e S c (λ x c1. Ret (Returned (Some x)) c1) (λ x c1. Ret (Returned (Some x)) c1) t k.at
       (λ x c1 v a1. (refl, (refl, left_here j (Some x) c1 (gives_result j T S x c q s (fitted_ok (misfit tests S.ty T) o.span tt f.first) v k) a1))))
 
   pub return_acted : (j : StmtClaim) (span : Span) (o : Option Expr) (c : Core) → return_rule tests span o j.body.scope j.body.result ≡ Ok j.done → Held j c → Acted j false (st.Return span o) c
@@ -178,11 +178,11 @@ module _ (tests : Tests) (right : IsRight tests) (ds : List Decl) (base : List E
 
   -- ---- printing
 
-  end_same : (j : StmtClaim) (kind : PrintKind) (d : Done) (c : Core) → d ≡ j.done → j.body.scope.names ≡ d.names → At tests base gv subs loose (here j) c → ActSame j true (end_print kind c) (end_print kind (erased c))
+  end_same : (j : StmtClaim) (kind : PrintKind) (d : Done) (c : Core) → d ≡ j.done → j.body.scope.names ≡ d.names → At tests base subs loose (here j) c → ActSame j true (end_print kind c) (end_print kind (erased c))
   end_same j Print d c e n a = (refl, (refl, ends_here j c d e n a))
   end_same j PrintLine d c e n a = (refl, (refl, (refl, ends_here j c d e n a)))
 
-  items_same : (j : StmtClaim) (kind : PrintKind) (is : List PrintItem) (p : Printed) (d : Done) (c : Core) → d ≡ j.done → j.body.scope.names ≡ d.names → items_rule tests is j.body.scope ≡ Ok p → At tests base gv subs loose (here j) c → ActSame j true (print_items item_in kind is c) (print_items item_of kind p.items (erased c))
+  items_same : (j : StmtClaim) (kind : PrintKind) (is : List PrintItem) (p : Printed) (d : Done) (c : Core) → d ≡ j.done → j.body.scope.names ≡ d.names → items_rule tests is j.body.scope ≡ Ok p → At tests base subs loose (here j) c → ActSame j true (print_items item_in kind is c) (print_items item_of kind p.items (erased c))
   items_same j kind [] p d c e n h a = subst (λ (z : Printed). ActSame j true (print_items item_in kind [] c) (print_items item_of kind z.items (erased c))) (ok_ok (printed [] []) p h) (end_same j kind d c e n a)
   items_same j kind (Verbatim span text ∷ is) p d c e n h a =
       let q = bind_ok (items_rule tests is j.body.scope) _ p h in
@@ -192,7 +192,7 @@ module _ (tests : Tests) (right : IsRight tests) (ds : List Decl) (base : List E
       let s = bind_ok (typed tests f j.body.scope) _ p h in
       let q = bind_ok (items_rule tests is j.body.scope) _ p s.then in
       subst (λ (z : Printed). ActSame j true (print_items item_in kind (Shown f ∷ is) c) (print_items item_of kind z.items (erased c))) (ok_ok (value_first s.value q.value) p q.then)
-      (operand tests right base gv subs loose (here j) (OutAct j true) f s.value c (λ x c1. Put (value_text x) (print_items item_in kind is c1)) (λ x c1. Put (value_text x) (print_items item_of kind q.value.items c1)) s.first a (λ x c1 v a1. (refl, items_same j kind is q.value d c1 e n q.first a1)))
+      (operand tests right base subs loose (here j) (OutAct j true) f s.value c (λ x c1. Put (value_text x) (print_items item_in kind is c1)) (λ x c1. Put (value_text x) (print_items item_of kind q.value.items c1)) s.first a (λ x c1 v a1. (refl, items_same j kind is q.value d c1 e n q.first a1)))
 
   pub print_acted : (j : StmtClaim) (span : Span) (kind : PrintKind) (is : List PrintItem) (c : Core) → print_rule tests span kind is j.body.scope ≡ Ok j.done → Held j c → Acted j true (st.Print span kind is) c
   print_acted j span kind is c h k =

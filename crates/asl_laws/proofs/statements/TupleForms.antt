@@ -84,7 +84,7 @@ module _ (d : List ℕ → Option Ty) (av : Assignment) where
       record { inner = r.inner; is = r.is; have = r.have; built = r.built; closed_is = r.closed_is; seen = r.seen }
   tupled T ts x q h b = none_some ts q
 
-module _ (tests : Tests) (right : IsRight tests) (ds : List Decl) (base : List Entry) (gv : Assignment) (subs : List Signature) (loose : Bool) (funcs : List TreeFunc) (w : WellNamed base) where
+module _ (tests : Tests) (right : IsRight tests) (ds : List Decl) (base : List Entry) (subs : List Signature) (loose : Bool) (funcs : List TreeFunc) (w : WellNamed base) where
   abbrev d : List ℕ → Option Ty
   d = types_in base
 
@@ -102,7 +102,7 @@ module _ (tests : Tests) (right : IsRight tests) (ds : List Decl) (base : List E
   by_values av kind (value x xs) (part T ts) h b e =
       let p = both (has x (type_with T av)) (parts_in xs (parts_with ts av)) h in
       let i : InType d av x T = (p.0, b.0, sym (seen_is av T x) ∙ same_first (seen_as T x) x (parts_seen_as ts xs) xs e) in
-      let k = unannotated_in tests right ds base gv subs loose funcs w av kind T x i in
+      let k = unannotated_in tests right ds base subs loose funcs w av kind T x i in
       (k, kept_as_is d av (of_value x) T x i i, k, by_values av kind xs ts p.1 b.1 (same_rest (seen_as T x) x (parts_seen_as ts xs) xs e))
 
   by_types : (av : Assignment) (kind : LocalKind) (U : Ty) (vs : Values) (ts : Parts) → parts_in vs (parts_with ts av) ≡ true → BuiltAll d vs → AllPlaced av kind (Some U) (unders_of_parts (parts_with ts av)) (values_in vs) (values_in (parts_seen_as ts vs)) ts
@@ -123,7 +123,7 @@ module _ (tests : Tests) (right : IsRight tests) (ds : List Decl) (base : List E
     seen_are : (span : Span) → parts span (seen_where wr x) ≡ Good seen
     all : AllPlaced av kind wr unders values seen ts
 
-  parts_placed : (av : Assignment) (kind : LocalKind) (wr : Option Ty) (D : Ty) (ts : Parts) (u : Under) (x : Value) → tuple_parts D ≡ Some ts → Way tests right ds base gv subs loose funcs w av wr u x D → PlacedParts av kind wr ts u x
+  parts_placed : (av : Assignment) (kind : LocalKind) (wr : Option Ty) (D : Ty) (ts : Parts) (u : Under) (x : Value) → tuple_parts D ≡ Some ts → Way tests right ds base subs loose funcs w av wr u x D → PlacedParts av kind wr ts u x
   parts_placed av kind None D ts u x q v =
       let r = tupled d av D ts x q v.1.0 v.1.1 in
       let e : parts_seen_as ts r.inner ≡ r.inner = tuple_same (parts_seen_as ts r.inner) r.inner (sym (r.seen r.inner) ∙ sym (ap (seen_as D) r.is) ∙ seen_is av D x ∙ v.1.2 ∙ r.is) in
@@ -160,7 +160,7 @@ module _ (tests : Tests) (right : IsRight tests) (ds : List Decl) (base : List E
   record Next (kind : LocalKind) (names : List Entry) (a : Assignment) (o : Option Counted) (y : Value) : Type 0 where
     later : Assignment
     same : SameOn names a later
-    counts : Counts tests right ds base gv subs loose funcs w kind later o y
+    counts : Counts tests right ds base subs loose funcs w kind later o y
 
   next_by : (kind : LocalKind) (names : List Entry) (a : Assignment) (D : Ty) (y : Value) (b : Bool) → is_integer D ≡ b → InType d a y D → Next kind names a (cond b (Some (atom_at (next_atom names))) None) y
   next_by local.Var names a D y b q i = record { later = a; same = λ n l. refl; counts = tt }
@@ -178,17 +178,17 @@ module _ (tests : Tests) (right : IsRight tests) (ds : List Decl) (base : List E
     takes : parts_taken span (taken bs) ys ≡ Good more
     erased_is : erased state ≡ with_next more (erased c)
     same : SameOn names a later
-    agrees : Agrees base gv after later state
+    agrees : Agrees base after later state
     handled_is : around_of state ≡ around_of c
 
   part_formed : (kind : LocalKind) (wr : Option Ty) (T : Ty) → WellFormed d T → WellFormed d (part_declared kind wr T)
-  part_formed kind None T f = unannotated_formed tests right ds base gv subs loose funcs w kind T f
+  part_formed kind None T f = unannotated_formed tests right ds base subs loose funcs w kind T f
   part_formed kind (Some U) T f = f
 
   each_bound : (span : Span) (bs : List Binder) (kind : LocalKind) (wr : Option Ty) (ts : Parts) (us : List Under) (xs ys : List Value) (start : List Entry) (before : List (List ℕ)) (names after : List Entry) (a : Assignment) (c : Core) → bound_parts bs kind wr ts names ≡ Some after →
-      binders_free bs before start ≡ Ok tt → Fresh start before names → NamesOver (Below names) names → AllOver (Below names) ts → ShapedParts d ts → AllPlaced a kind wr us xs ys ts → Agrees base gv names a c → Bindings span bs kind us xs ys names after a c
+      binders_free bs before start ≡ Ok tt → Fresh start before names → NamesOver (Below names) names → AllOver (Below names) ts → ShapedParts d ts → AllPlaced a kind wr us xs ys ts → Agrees base names a c → Bindings span bs kind us xs ys names after a c
   each_bound span [] kind wr no_part [] [] [] start before names after a c k f fresh g o s p ag =
-      record { state = c; later = a; more = []; runs = refl; takes = refl; erased_is = unmoved tests right ds base gv subs loose funcs w c; same = λ n l. refl; agrees = subst (λ ns. Agrees base gv ns a c) (some_same names after k) ag; handled_is = refl }
+      record { state = c; later = a; more = []; runs = refl; takes = refl; erased_is = unmoved tests right ds base subs loose funcs w c; same = λ n l. refl; agrees = subst (λ ns. Agrees base ns a c) (some_same names after k) ag; handled_is = refl }
   each_bound span [] kind wr (part T ts) us xs ys start before names after a c k f fresh g o s p ag = none_some after k
   each_bound span (Bound i ∷ bs) kind wr no_part us xs ys start before names after a c k f fresh g o s p ag = none_some after k
   each_bound span (Unbound at ∷ bs) kind wr no_part us xs ys start before names after a c k f fresh g o s p ag = none_some after k
@@ -204,7 +204,7 @@ module _ (tests : Tests) (right : IsRight tests) (ds : List Decl) (base : List E
       let over = part_type_over tests (Below names) kind wr T o.0 in
       let n = next_by kind names a D y (is_integer D) refl p.2 in
       let c1 = declared i.text y u (is_var kind) c in
-      let after1 = new_name tests right ds base gv subs loose funcs w kind names a i.text D counted n.later u y c p.0 p.2 n.same over (part_formed kind wr T (record { shaped = s.1; has_name = s.0 })) free ag g.each n.counts in
+      let after1 = new_name tests right ds base subs loose funcs w kind names a i.text D counted n.later u y c p.0 p.2 n.same over (part_formed kind wr T (record { shaped = s.1; has_name = s.0 })) free ag g.each n.counts in
       let g1 = one_added tests kind names i.text D counted g over (λ z q. if_itself (Below (names ++ fixed i.text D counted ∷ [])) (is_integer D) (next_atom names) z (atoms_snoc names (fixed i.text D counted) refl) q) in
       let o1 = all_more (Below names) (Below (names ++ entry ∷ [])) (below_more names (entry ∷ [])) ts o.1 in
       let r = each_bound span bs kind wr ts us xs ys start (before ++ i.text ∷ []) (names ++ entry ∷ []) after n.later c1 k b.then (fresh_next kind i D counted fresh) g1 o1 s.2 (all_moved names a n.later kind wr us xs ys ts n.same o.1 p.3) after1 in
@@ -254,7 +254,7 @@ module _ (tests : Tests) (right : IsRight tests) (ds : List Decl) (base : List E
   let_is None S = refl
   let_is (Some T) S = refl
 
-  pub several_acted : (j : StmtClaim) (span : Span) (kind : LocalKind) (at : Span) (bs : List Binder) (t : Option TypeExpr) (e : Expr) (c : Core) → bind_rule tests span kind (Several at bs) t e j.body.scope ≡ Ok j.done → Held tests right ds base gv subs loose funcs w j c → Acted tests right ds base gv subs loose funcs w j true (st.Local span kind (Several at bs) t e) c
+  pub several_acted : (j : StmtClaim) (span : Span) (kind : LocalKind) (at : Span) (bs : List Binder) (t : Option TypeExpr) (e : Expr) (c : Core) → bind_rule tests span kind (Several at bs) t e j.body.scope ≡ Ok j.done → Held tests right ds base subs loose funcs w j c → Acted tests right ds base subs loose funcs w j true (st.Local span kind (Several at bs) t e) c
   several_acted j span kind at bs t e c h held =
       let G = j.body.scope in
       let m = bind_ok (initialised tests t e G) _ j.done h in
@@ -266,11 +266,11 @@ module _ (tests : Tests) (right : IsRight tests) (ds : List Decl) (base : List E
       let b = in_the_parts bs kind wr (tuple_parts (written_or wr S.ty)) G.names v.value (found_ok o T05 span v.value v.first) in
       let D = type_declared local.Let wr S.ty in
       let q : tuple_parts D ≡ Some b.inner = ap tuple_parts (let_is wr S.ty) ∙ b.is in
-      let s = init_says tests right ds base gv subs loose funcs w j c local.Let t e m.value m.first held in
+      let s = init_says tests right ds base subs loose funcs w j c local.Let t e m.value m.first held in
       let act = tree.Declare span wr (tree.in_parts (taken bs)) S.tree in
-      let env = environment_of tests right ds base gv subs loose funcs w in
-      acted tests right ds base gv subs loose funcs w j true (st.Local span kind (Several at bs) t e) c (done v.value S.effect act) (ended_is G.class span true S.effect v.value act j.done v.then) refl
-      (λ z. operand tests right base gv subs loose (here tests right ds base gv subs loose funcs w j) (OutAct tests right ds base gv subs loose funcs w j true) e S c (λ x c1. lift (bound_to env span (Several at bs) (is_var kind) t x c1) c1 done_normal) (λ x c1. lift (bare.declared span wr (tree.in_parts (taken bs)) x c1) c1 done_normal) s.typed_is held.at
+      let env = environment_of tests right ds base subs loose funcs w in
+      acted tests right ds base subs loose funcs w j true (st.Local span kind (Several at bs) t e) c (done v.value S.effect act) (ended_is G.class span true S.effect v.value act j.done v.then) refl
+      (λ z. operand tests right base subs loose (here tests right ds base subs loose funcs w j) (OutAct tests right ds base subs loose funcs w j true) e S c (λ x c1. lift (bound_to env span (Several at bs) (is_var kind) t x c1) c1 done_normal) (λ x c1. lift (bare.declared span wr (tree.in_parts (taken bs)) x c1) c1 done_normal) s.typed_is held.at
       (λ x c1 i a.
       let p = s.placed x c1 i a in
       let k = parts_placed j.present kind wr D b.inner p.under x q p.way in
@@ -281,6 +281,6 @@ module _ (tests : Tests) (right : IsRight tests) (ds : List Decl) (base : List E
       ∙ ap (λ y. y >>= λ xs. declare_each span bs (is_var kind) k.unders xs c1) (k.values_are span) ∙ r.runs in
       let takes : bare.declared span wr (tree.in_parts (taken bs)) x (erased c1) ≡ Good (erased r.state) =
       ap (λ y. (y >>= λ xs. parts_taken span (taken bs) xs) >>= λ xs. Good (with_next xs (erased c1))) (k.seen_are span) ∙ ap (λ y. y >>= λ xs. Good (with_next xs (erased c1))) r.takes ∙ ap Good (sym r.erased_is) in
-      subst (λ y. ActSame tests right ds base gv subs loose funcs w j true (lift y c1 done_normal) (lift (bare.declared span wr (tree.in_parts (taken bs)) x (erased c1)) (erased c1) done_normal)) (sym runs)
-      (subst (λ y. ActSame tests right ds base gv subs loose funcs w j true (done_normal r.state) (lift y (erased c1) done_normal)) (sym takes)
-      (refl, (refl, record { reached = refl; later = r.later; same = r.same; agrees = subst (λ ns. Agrees base gv ns r.later r.state) (ap (λ (y : Done). y.names) z) r.agrees; around_is = r.handled_is ∙ a.around_is })))))
+      subst (λ y. ActSame tests right ds base subs loose funcs w j true (lift y c1 done_normal) (lift (bare.declared span wr (tree.in_parts (taken bs)) x (erased c1)) (erased c1) done_normal)) (sym runs)
+      (subst (λ y. ActSame tests right ds base subs loose funcs w j true (done_normal r.state) (lift y (erased c1) done_normal)) (sym takes)
+      (refl, (refl, record { reached = refl; later = r.later; same = r.same; agrees = subst (λ ns. Agrees base ns r.later r.state) (ap (λ (y : Done). y.names) z) r.agrees; around_is = r.handled_is ∙ a.around_is })))))

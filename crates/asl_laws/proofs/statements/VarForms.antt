@@ -44,7 +44,6 @@ use Rattle.asl_rules.specs.private.Erasure.{erased, values_of}
 use Rattle.asl_rules.proofs.basics.Inversions.{ok_ok, bind_ok, then_ok, need_ok}
 use Rattle.asl_rules.proofs.basics.Tests.{none_some}
 use Rattle.asl_rules.proofs.scopes.Lookups.{same_types}
-use Rattle.asl_rules.proofs.values.FirstValues.{first_in_type}
 use Rattle.asl_rules.proofs.scopes.Naming.{WellNamed, well_declared, scope_good, type_fixed}
 use Rattle.asl_laws.proofs.scopes.WellTyped.{written_formed}
 use Rattle.asl_rules.proofs.basics.Opening.{type_opened}
@@ -54,13 +53,14 @@ use Rattle.asl_laws.proofs.scopes.ScopesOver.{Below}
 use Rattle.asl_laws.proofs.scopes.BodiesOver.{one_added, below_more}
 use Rattle.asl_laws.proofs.scopes.Agreeing.{erased_declared}
 use Rattle.asl_laws.proofs.values.FirstFilled.{Unstuck, filled_begins}
+use Rattle.asl_laws.proofs.values.FirstPresent.{first_present}
 use Rattle.asl_laws.proofs.expressions.Claims.{StmtClaim, At, around_of}
 use Rattle.asl_laws.proofs.expressions.TreePlans.{all_same, append_nil, list_from}
 use Rattle.asl_laws.proofs.expressions.SizeForms.{type_says}
 use Rattle.asl_laws.proofs.statements.StmtForms.{here, Held, OutAct, ActSame, Acted, acted}
 use Rattle.asl_laws.proofs.statements.DeclareForms.{new_name, unmoved, environment_of}
 
-module _ (tests : Tests) (right : IsRight tests) (ds : List Decl) (base : List Entry) (gv : Assignment) (subs : List Signature) (loose : Bool) (funcs : List TreeFunc) (w : WellNamed base) where
+module _ (tests : Tests) (right : IsRight tests) (ds : List Decl) (base : List Entry) (subs : List Signature) (loose : Bool) (funcs : List TreeFunc) (w : WellNamed base) where
   -- ---- where a written type stands
 
   layer_span : (x : TypeLayer) → exprs.type_span (type_opened tests x) ≡ type_layer_span x
@@ -78,19 +78,19 @@ module _ (tests : Tests) (right : IsRight tests) (ds : List Decl) (base : List E
   -- ---- each name
 
   record Begun (is : List Ident) (T : Ty) (a : Assignment) (x : Value) (after : List Entry) (c : Core) : Type 0 where
-    agrees : Agrees base gv after a (declare_all is (type_with T a) x c)
+    agrees : Agrees base after a (declare_all is (type_with T a) x c)
     erased_is : erased (declare_all is (type_with T a) x c) ≡ with_next (replicate (length is) x) (erased c)
     handled_is : around_of (declare_all is (type_with T a) x c) ≡ around_of c
 
-  each_begun : (is : List Ident) (T : Ty) (a : Assignment) (x : Value) (names after : List Entry) (c : Core) → names_rule is T names ≡ Ok after → NamesOver (Below names) names → Over (Below names) T → WellFormed (types_in base) T → InType (types_in base) a x T → Agrees base gv names a c → Begun is T a x after c
-  each_begun [] T a x names after c h g over formed i ag = record { agrees = subst (λ ns. Agrees base gv ns a c) (ok_ok names after h) ag; erased_is = unmoved tests right ds base gv subs loose funcs w c; handled_is = refl }
+  each_begun : (is : List Ident) (T : Ty) (a : Assignment) (x : Value) (names after : List Entry) (c : Core) → names_rule is T names ≡ Ok after → NamesOver (Below names) names → Over (Below names) T → WellFormed (types_in base) T → InType (types_in base) a x T → Agrees base names a c → Begun is T a x after c
+  each_begun [] T a x names after c h g over formed i ag = record { agrees = subst (λ ns. Agrees base ns a c) (ok_ok names after h) ag; erased_is = unmoved tests right ds base subs loose funcs w c; handled_is = refl }
   each_begun (n ∷ is) T a x names after c h g over formed i ag =
       let entry : Entry = variable n.text T in
       let u = then_ok (need (is_free n.text names) T01 n.span) (names_rule is T (names ++ entry ∷ [])) after h in
       let free = need_ok (is_free n.text names) T01 n.span tt u.first in
       let C = type_with T a in
       let c1 = declared n.text x (of_type C) true c in
-      let next = new_name tests right ds base gv subs loose funcs w local.Var names a n.text T None a (of_type C) x c refl i (λ m l. refl) over formed free ag g.each tt in
+      let next = new_name tests right ds base subs loose funcs w local.Var names a n.text T None a (of_type C) x c refl i (λ m l. refl) over formed free ag g.each tt in
       let g1 = one_added tests local.Var names n.text T None g over (λ z q. none_some z q) in
       let over1 = over_more (Below names) (Below (names ++ entry ∷ [])) (below_more names (entry ∷ [])) T over in
       let r = each_begun is T a x (names ++ entry ∷ []) after c1 u.then g1 over1 formed i next in
@@ -103,31 +103,31 @@ module _ (tests : Tests) (right : IsRight tests) (ds : List Decl) (base : List E
   -- ---- all names
 
   -- what both begin with
-  begun_same : (j : StmtClaim) (is : List Ident) (C : Closed) (r : PureOf Value) (c : Core) → At tests base gv subs loose (here tests right ds base gv subs loose funcs w j) c → Unstuck r → ((x : Value) → r ≡ Good x → ActSame tests right ds base gv subs loose funcs w j true (done_normal (declare_all is C x c)) (done_normal (with_next (replicate (length is) x) (erased c)))) →
-      ActSame tests right ds base gv subs loose funcs w j true (lift (r >>= λ x. Good (declare_all is C x c)) c done_normal) (lift (r >>= λ x. Good (with_next (replicate (length is) x) (erased c))) (erased c) done_normal)
+  begun_same : (j : StmtClaim) (is : List Ident) (C : Closed) (r : PureOf Value) (c : Core) → At tests base subs loose (here tests right ds base subs loose funcs w j) c → Unstuck r → ((x : Value) → r ≡ Good x → ActSame tests right ds base subs loose funcs w j true (done_normal (declare_all is C x c)) (done_normal (with_next (replicate (length is) x) (erased c)))) →
+      ActSame tests right ds base subs loose funcs w j true (lift (r >>= λ x. Good (declare_all is C x c)) c done_normal) (lift (r >>= λ x. Good (with_next (replicate (length is) x) (erased c))) (erased c) done_normal)
   begun_same j is C (Good x) c a u f = f x refl
   begun_same j is C (Bad (Faulted code span)) c a u f = (refl, refl, a.agrees.globals)
   begun_same j is C (Bad (Stuck mistake span)) c a u f = absurd u
 
-  pub vars_acted : (j : StmtClaim) (span : Span) (is : List Ident) (t : TypeExpr) (c : Core) → vars_rule tests span is t j.body.scope ≡ Ok j.done → Held tests right ds base gv subs loose funcs w j c → Acted tests right ds base gv subs loose funcs w j true (st.LocalVars span is t) c
+  pub vars_acted : (j : StmtClaim) (span : Span) (is : List Ident) (t : TypeExpr) (c : Core) → vars_rule tests span is t j.body.scope ≡ Ok j.done → Held tests right ds base subs loose funcs w j c → Acted tests right ds base subs loose funcs w j true (st.LocalVars span is t) c
   vars_acted j span is t c h held =
       let G = j.body.scope in
-      let H = here tests right ds base gv subs loose funcs w j in
-      let env = environment_of tests right ds base gv subs loose funcs w in
+      let H = here tests right ds base subs loose funcs w j in
+      let env = environment_of tests right ds base subs loose funcs w in
       let v = bind_ok (written tests t false G) _ j.done h in
       let W = v.value in
       let n = bind_ok (names_rule is W.ty G.names) _ j.done v.then in
-      let good = scope_good j.present base gv G.names c w held.at.agrees in
+      let good = scope_good j.present base G.names c w held.at.agrees in
       let wf = written_formed tests right (types_in base) (well_declared base w) t false G W good v.first in
       let over = written_over (Below G.names) tests t false G W held.scope_good.over v.first in
-      let q = type_says tests right base gv subs loose H (λ name T o. type_fixed (types_in base) G.names name good T o) (λ name. same_types j.present base gv G.names c name held.at.agrees) t false W v.first in
+      let q = type_says tests right base subs loose H (λ name T o. type_fixed (types_in base) G.names name good T o) (λ name. same_types j.present base G.names c name held.at.agrees) t false W v.first in
       let at = (found_type tests t).span in
       let whole = type_span t in
       let act = tree.DeclareFirst span (length is) at W.shape (trees_from W.sizes) in
       let C = type_with W.ty j.present in
-      acted tests right ds base gv subs loose funcs w j true (st.LocalVars span is t) c (done n.value Pure act) (ok_ok (done n.value Pure act) j.done n.then) refl
-      (λ z. subst (λ ts. ActSame tests right ds base gv subs loose funcs w j true (stmt_node env (st.LocalVars span is t) c) (eval_all ts [] (erased c) (λ zs c1. lift (bare.declared_first span (length is) (filled tests.limit at W.shape zs) c1) c1 done_normal))) (sym (list_from W.sizes))
-      (all_same tests right base gv subs loose H (OutAct tests right ds base gv subs loose funcs w j true) (sizes_in t) W.sizes q.asked [] c (λ zs c1. lift (declare_first env span is t zs c1) c1 done_normal) (λ zs c1. lift (bare.declared_first span (length is) (filled tests.limit at W.shape zs) c1) c1 done_normal) q.asks held.at
+      acted tests right ds base subs loose funcs w j true (st.LocalVars span is t) c (done n.value Pure act) (ok_ok (done n.value Pure act) j.done n.then) refl
+      (λ z. subst (λ ts. ActSame tests right ds base subs loose funcs w j true (stmt_node env (st.LocalVars span is t) c) (eval_all ts [] (erased c) (λ zs c1. lift (bare.declared_first span (length is) (filled tests.limit at W.shape zs) c1) c1 done_normal))) (sym (list_from W.sizes))
+      (all_same tests right base subs loose H (OutAct tests right ds base subs loose funcs w j true) (sizes_in t) W.sizes q.asked [] c (λ zs c1. lift (declare_first env span is t zs c1) c1 done_normal) (λ zs c1. lift (bare.declared_first span (length is) (filled tests.limit at W.shape zs) c1) c1 done_normal) q.asks held.at
       (λ zs c1 i a.
       let k = q.fills whole zs [] i in
       let one = k.one in
@@ -135,11 +135,11 @@ module _ (tests : Tests) (right : IsRight tests) (ds : List Decl) (base : List E
       let full : filled tests.limit whole W.shape zs ≡ Some one = ap (λ l. filled tests.limit whole W.shape l) (sym (append_nil zs)) ∙ k.is in
       let untyped : sized_at env t zs ≡ Some one = ap (λ o. sized tests.limit whole zs o) q.shape_is ∙ full in
       let typed : filled tests.limit at W.shape zs ≡ Some one = ap (λ m. filled tests.limit m W.shape zs) (span_is t) ∙ full in
-      subst (λ o. ActSame tests right ds base gv subs loose funcs w j true (lift (type_or_stuck span o >>= λ s. s.first >>= λ x. Good (declare_all is s.type_is x c1)) c1 done_normal) (lift (bare.declared_first span (length is) (filled tests.limit at W.shape zs) (erased c1)) (erased c1) done_normal)) (sym untyped)
-      (subst (λ o. ActSame tests right ds base gv subs loose funcs w j true (lift (one.first >>= λ x. Good (declare_all is one.type_is x c1)) c1 done_normal) (lift (bare.declared_first span (length is) o (erased c1)) (erased c1) done_normal)) (sym typed)
-      (subst (λ D. ActSame tests right ds base gv subs loose funcs w j true (lift (one.first >>= λ x. Good (declare_all is D x c1)) c1 done_normal) (lift (one.first >>= λ x. Good (with_next (replicate (length is) x) (erased c1))) (erased c1) done_normal)) (sym k.type_is)
+      subst (λ o. ActSame tests right ds base subs loose funcs w j true (lift (type_or_stuck span o >>= λ s. s.first >>= λ x. Good (declare_all is s.type_is x c1)) c1 done_normal) (lift (bare.declared_first span (length is) (filled tests.limit at W.shape zs) (erased c1)) (erased c1) done_normal)) (sym untyped)
+      (subst (λ o. ActSame tests right ds base subs loose funcs w j true (lift (one.first >>= λ x. Good (declare_all is one.type_is x c1)) c1 done_normal) (lift (bare.declared_first span (length is) o (erased c1)) (erased c1) done_normal)) (sym typed)
+      (subst (λ D. ActSame tests right ds base subs loose funcs w j true (lift (one.first >>= λ x. Good (declare_all is D x c1)) c1 done_normal) (lift (one.first >>= λ x. Good (with_next (replicate (length is) x) (erased c1))) (erased c1) done_normal)) (sym k.type_is)
       (begun_same j is C one.first c1 a b.unstuck
       (λ x e.
-      let belongs = first_in_type tests.limit whole (types_in base) j.present W.ty wf x (ap (first_value tests.limit whole) (sym k.type_is) ∙ b.first x e) in
+      let belongs = first_present j.present (types_in base) (well_declared base w) tests.limit whole W.ty wf x (ap (first_value tests.limit whole) (sym k.type_is) ∙ b.first x e) in
       let r = each_begun is W.ty j.present x G.names n.value c1 n.first held.scope_good.over over wf belongs a.agrees in
-      (r.erased_is, (refl, record { reached = refl; later = j.present; same = λ m l. refl; agrees = subst (λ ns. Agrees base gv ns j.present (declare_all is C x c1)) (ap (λ (y : Done). y.names) z) r.agrees; around_is = r.handled_is ∙ a.around_is })))))))))
+      (r.erased_is, (refl, record { reached = refl; later = j.present; same = λ m l. refl; agrees = subst (λ ns. Agrees base ns j.present (declare_all is C x c1)) (ap (λ (y : Done). y.names) z) r.agrees; around_is = r.handled_is ∙ a.around_is })))))))))

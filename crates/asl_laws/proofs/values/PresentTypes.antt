@@ -29,7 +29,7 @@ use Rattle.asl_laws.proofs.expressions.ExprForms.{env}
 use Rattle.asl_laws.proofs.expressions.SizeForms.{AllNumeric, type_says}
 use Rattle.asl_laws.proofs.widths.PresentNumbers.{NumbersAgree, width_has, number_has, CountedFixed, counts_held, present_agree}
 
-module _ (tests : Tests) (right : IsRight tests) (base : List Entry) (gv : Assignment) (subs : List Signature) (loose : Bool) (H : Here) (f : Numbers)
+module _ (tests : Tests) (right : IsRight tests) (base : List Entry) (subs : List Signature) (loose : Bool) (H : Here) (f : Numbers)
     (g : NumbersAgree f H.present H.scope) (k : CountsHeld H.scope.names) where
   -- the fractions of expressions
   pub record Numbered (es : List Expr) (qs : List Asked) : Type 0 where
@@ -43,7 +43,7 @@ module _ (tests : Tests) (right : IsRight tests) (base : List Entry) (gv : Assig
   one_more e es r rs h n =
       ap (option_and_then (λ x. option_map (λ xs. x ∷ xs) (all_fractions (wholes f) es))) h ∙ ap (option_map (λ l. r ∷ l)) n
 
-  pub numbered : (es : List Expr) (ts : List Tree) (qs : List Asked) → AllAsked tests right base gv subs loose H.scope es ts qs →
+  pub numbered : (es : List Expr) (ts : List Tree) (qs : List Asked) → AllAsked tests right base subs loose H.scope es ts qs →
       AllNumeric qs → Numbered es qs
   numbered [] [] [] h n = record { values = []; are = refl; ratios = tt }
   numbered (e ∷ es) (t ∷ ts) (of_width W ∷ qs) h n =
@@ -63,15 +63,15 @@ module _ (tests : Tests) (right : IsRight tests) (base : List Entry) (gv : Assig
   numbered (e ∷ es) [] qs h n = absurd h
   numbered (e ∷ es) (t ∷ ts) [] h n = absurd h
 
-module _ (tests : Tests) (right : IsRight tests) (ds : List Decl) (base : List Entry) (gv : Assignment) (subs : List Signature) (loose : Bool) (funcs : List TreeFunc) (w : WellNamed base) where
+module _ (tests : Tests) (right : IsRight tests) (ds : List Decl) (base : List Entry) (subs : List Signature) (loose : Bool) (funcs : List TreeFunc) (w : WellNamed base) where
   -- the type that is written, where the names of its scope have their numbers
-  pub type_by : (H : Here) (f : Numbers) (c : Core) (t : TypeExpr) (outside : Bool) (W : Written) → NumbersAgree f H.present H.scope → Agrees base gv H.scope.names H.present c → written tests t outside H.scope ≡ Ok W →
-      type_at (env tests right ds base gv subs loose funcs w) f t ≡ Some (type_with W.ty H.present)
+  pub type_by : (H : Here) (f : Numbers) (c : Core) (t : TypeExpr) (outside : Bool) (W : Written) → NumbersAgree f H.present H.scope → Agrees base H.scope.names H.present c → written tests t outside H.scope ≡ Ok W →
+      type_at (env tests right ds base subs loose funcs w) f t ≡ Some (type_with W.ty H.present)
   type_by H f c t outside W g a h =
-      let good = scope_good H.present base gv H.scope.names c w a in
-      let q = type_says tests right base gv subs loose H (λ name T o. type_fixed (types_in base) H.scope.names name good T o) (λ name. same_types H.present base gv H.scope.names c name a) t outside W h in
+      let good = scope_good H.present base H.scope.names c w a in
+      let q = type_says tests right base subs loose H (λ name T o. type_fixed (types_in base) H.scope.names name good T o) (λ name. same_types H.present base H.scope.names c name a) t outside W h in
       let v =
-      numbered tests right base gv subs loose H f g (counts_held H.present base gv H.scope.names c a)
+      numbered tests right base subs loose H f g (counts_held H.present base H.scope.names c a)
       (type_parts t).exprs W.sizes q.asked q.asks q.numeric in
       ap (option_and_then (λ rs. present_type rs (shape_of (types_among base) t))) v.are
       ∙ ap (present_type v.values) q.shape_is
@@ -82,5 +82,5 @@ module _ (tests : Tests) (right : IsRight tests) (ds : List Decl) (base : List E
   over G av = record { scope = G; present = av; around = nothing_around }
 
   -- in a state
-  pub type_present : (G : Scope) (av : Assignment) (c : Core) (t : TypeExpr) (outside : Bool) (W : Written) → CountedFixed G.names → Agrees base gv G.names av c → written tests t outside G ≡ Ok W → type_at (env tests right ds base gv subs loose funcs w) (present c) t ≡ Some (type_with W.ty av)
-  type_present G av c t outside W k a h = type_by (over G av) (present c) c t outside W (present_agree av base gv G c k a) a h
+  pub type_present : (G : Scope) (av : Assignment) (c : Core) (t : TypeExpr) (outside : Bool) (W : Written) → CountedFixed G.names → Agrees base G.names av c → written tests t outside G ≡ Ok W → type_at (env tests right ds base subs loose funcs w) (present c) t ≡ Some (type_with W.ty av)
+  type_present G av c t outside W k a h = type_by (over G av) (present c) c t outside W (present_agree av base G c k a) a h

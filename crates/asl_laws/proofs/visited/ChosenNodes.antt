@@ -16,6 +16,7 @@ use Rattle.asl_rules.specs.Tests.{Tests, IsRight}
 use Rattle.asl_rules.specs.types.Types.{Ty, bits_wide, is_bits, view_of}
 use Rattle.asl_rules.specs.types.Shaped.{exprs_in, shapes_in, given_parts}
 use Rattle.asl_rules.specs.declarations.Scopes.{Entry, Signature}
+use Rattle.asl_rules.specs.declarations.Programs.{funcs_of, Head, signatures_rule, signatures, bodies_rule}
 use Rattle.asl_rules.specs.private.Belonging.{InType}
 use Rattle.asl_rules.specs.private.Agreement.{types_in, Agrees}
 use Rattle.asl_rules.specs.private.TypedMeaning.{tree_meaning}
@@ -59,29 +60,26 @@ use Rattle.asl_rules.specs.values.Vectors.{bitfields_named as named_in_value}
 use Rattle.std.specs.Prelude.{nat_le}
 use Rattle.asl_syn.specs.declared.tree.Alternative.TheFolds.{fold_out-Stmt}
 use Rattle.asl_rules.specs.statements.Branches.{FoundAlternative, FoundCatcher, FoundBranch}
-use Rattle.asl_rules.specs.declarations.Environments.{funcs_of}
-use Rattle.asl_rules.specs.declarations.Signatures.{Head, signatures_rule, bodies_rule, signatures}
-use Rattle.asl_rules.specs.types.Closed.{Assignment}
 use Rattle.asl_laws.proofs.visited.ChosenPlaces.{assign_finds}
 
 -- what is so of each value of a type is so of what an expression of the type gave
-typed_gave : (base : List Entry) (gv : Assignment) (names : List Entry) (a : _) (T : Ty) (P : Value → Type 0) (r : Outcome Core Value) → ((x : Value) → InType (types_in base) a x T → P x) → GivesType base gv names a T r → Gave (λ x c. P x) r
-typed_gave base gv names a T P (Done x c h) f g = f x g.0
-typed_gave base gv names a T P (Thrown x c h) f g = tt
-typed_gave base gv names a T P (Halt e c h) f g = tt
+typed_gave : (base names : List Entry) (a : _) (T : Ty) (P : Value → Type 0) (r : Outcome Core Value) → ((x : Value) → InType (types_in base) a x T → P x) → GivesType base names a T r → Gave (λ x c. P x) r
+typed_gave base names a T P (Done x c h) f g = f x g.0
+typed_gave base names a T P (Thrown x c h) f g = tt
+typed_gave base names a T P (Halt e c h) f g = tt
 
-module _ (tests : Tests) (right : IsRight tests) (ds : List Decl) (base : List Entry) (gv : Assignment) (out : NamesOutside base) (loose : Bool) (heads : List Head) (trees : List TreeFunc) (w : WellNamed base) (s : FormedSubs tests right (types_in base) (well_declared base w) (signatures heads))
+module _ (tests : Tests) (right : IsRight tests) (ds : List Decl) (base : List Entry) (out : NamesOutside base) (loose : Bool) (heads : List Head) (trees : List TreeFunc) (w : WellNamed base) (s : FormedSubs tests right (types_in base) (well_declared base w) (signatures heads))
     (heads_are : signatures_rule tests base (funcs_of ds) ≡ Ok heads) (bodies : bodies_rule tests (signatures heads) heads ≡ Ok trees) where
   abbrev subs : List Signature
   subs = signatures heads
 
-  module _ (o : Others tests right ds base gv subs loose trees w s) (q : OtherStmts tests right ds base gv subs loose trees w) where
-    of_value : (H : Here) (e : Expr) (T : Typed) (c : Core) (P : Value → Type 0) → typed tests e H.scope ≡ Ok T → At tests base gv subs loose H c → ((x : Value) → InType (types_in base) H.present x T.ty → P x) → OfValue (over_names tests ds base) e c P
-    of_value H e T c P t a f d h = typed_gave base gv H.scope.names H.present T.ty P _ f (typed_run tests right ds base gv subs loose trees w s o q d e H T c h t a).1
+  module _ (o : Others tests right ds base subs loose trees w s) (q : OtherStmts tests right ds base subs loose trees w) where
+    of_value : (H : Here) (e : Expr) (T : Typed) (c : Core) (P : Value → Type 0) → typed tests e H.scope ≡ Ok T → At tests base subs loose H c → ((x : Value) → InType (types_in base) H.present x T.ty → P x) → OfValue (over_names tests ds base) e c P
+    of_value H e T c P t a f d h = typed_gave base H.scope.names H.present T.ty P _ f (typed_run tests right ds base subs loose trees w s o q d e H T c h t a).1
 
     -- ---- members
 
-    field_by : (H : Here) (S : Typed) (span : Span) (e : Expr) (i : Ident) (c : Core) (T : Typed) (m : Member) → typed tests e H.scope ≡ Ok T → member_of T.ty i.text ≡ Some m → in_class H.scope.class span T.effect (member_type m) (member_tree T.tree m) ≡ Ok S → At tests base gv subs loose H c → ExprChosen (over_names tests ds base) (ex.Field span e i) S.tree c
+    field_by : (H : Here) (S : Typed) (span : Span) (e : Expr) (i : Ident) (c : Core) (T : Typed) (m : Member) → typed tests e H.scope ≡ Ok T → member_of T.ty i.text ≡ Some m → in_class H.scope.class span T.effect (member_type m) (member_tree T.tree m) ≡ Ok S → At tests base subs loose H c → ExprChosen (over_names tests ds base) (ex.Field span e i) S.tree c
     field_by H S span e i c T (a_field n U) t k h a =
         inl (note span U T.effect, T.tree, n, ap (λ (z : Typed). z.tree) (sym (in_class_is H.scope.class span T.effect U (λ y. tree.Field y T.tree n) S h)), of_value H e T c (HasFieldAt i.text n) t a (λ x v. field_found H.present T.ty i.text n U x k v.0))
     field_by H S span e i c T (a_bitfield f) t k h a =
@@ -93,13 +91,13 @@ module _ (tests : Tests) (right : IsRight tests) (ds : List Decl) (base : List E
           of_value H e T c (HasBitfield i.text f) t a (λ x v. bitfield_found H.present (types_in base) T.ty i.text f x k v),
         )
 
-    field_chosen : (H : Here) (S : Typed) (span : Span) (e : Expr) (i : Ident) (c : Core) → field_rule span (found tests e) i H.scope ≡ Ok S → At tests base gv subs loose H c → ExprChosen (over_names tests ds base) (ex.Field span e i) S.tree c
+    field_chosen : (H : Here) (S : Typed) (span : Span) (e : Expr) (i : Ident) (c : Core) → field_rule span (found tests e) i H.scope ≡ Ok S → At tests base subs loose H c → ExprChosen (over_names tests ds base) (ex.Field span e i) S.tree c
     field_chosen H S span e i c h a =
         let t = bind_ok (typed tests e H.scope) _ S h in
         let m = bind_ok (member_named i t.value.ty) _ S t.then in
         field_by H S span e i c t.value m.value t.first (member_ok i t.value.ty m.value m.first) m.then a
 
-    bitfields_chosen : (H : Here) (S : Typed) (span : Span) (e : Expr) (is : List Ident) (c : Core) → bitfields_rule span (found tests e) is H.scope ≡ Ok S → At tests base gv subs loose H c → ExprChosen (over_names tests ds base) (ex.Fields span e is) S.tree c
+    bitfields_chosen : (H : Here) (S : Typed) (span : Span) (e : Expr) (is : List Ident) (c : Core) → bitfields_rule span (found tests e) is H.scope ≡ Ok S → At tests base subs loose H c → ExprChosen (over_names tests ds base) (ex.Fields span e is) S.tree c
     bitfields_chosen H S span e is c h a =
         let t = bind_ok (typed tests e H.scope) _ S h in
         let n = bind_ok (named_in_type span is t.value.ty) _ S t.then in
@@ -118,31 +116,31 @@ module _ (tests : Tests) (right : IsRight tests) (ds : List Decl) (base : List E
 
     -- ---- constructions
 
-    construct_chosen : (H : Here) (S : Typed) (span : Span) (i : Ident) (fs : List FieldValue) (c : Core) → construct_rule tests span i (map (found_field tests) fs) H.scope ≡ Ok S → At tests base gv subs loose H c → ExprChosen (over_names tests ds base) (ex.Construct span i fs) S.tree c
+    construct_chosen : (H : Here) (S : Typed) (span : Span) (i : Ident) (fs : List FieldValue) (c : Core) → construct_rule tests span i (map (found_field tests) fs) H.scope ≡ Ok S → At tests base subs loose H c → ExprChosen (over_names tests ds base) (ex.Construct span i fs) S.tree c
     construct_chosen H S span i fs c h a =
-        let k = constructs tests right ds base gv subs loose trees w H S span i fs c (good tests right ds base gv subs loose trees w s H c a) h a in
+        let k = constructs tests right ds base subs loose trees w H S span i fs c (good tests right ds base subs loose trees w s H c a) h a in
         let by_name = runs.constructed span (types_among base i.text) (shapes_in given_parts fs) in
         let by_place = places.constructed span k.made_of.shell k.fields_given in
         let P : List Value → Type 0 = λ xs. by_name xs ≡ by_place xs in
         let Q : List Value → List Value → Core → Type 0 = λ xs ys c1. P xs in
         let es = exprs_in given_parts fs in
         let ts = trees_in k.operands_are in
-        let both : Same tests right base gv subs loose H Q (eval_all es [] c (λ xs c1. Ret xs c1)) (eval_all ts [] (erased c) (λ xs d1. Ret xs d1)) =
-        all_same tests right base gv subs loose H Q es ts (asked_of tests right base gv subs loose k.operands_are) [] c (λ xs c1. Ret xs c1) (λ xs d1. Ret xs d1) (given_asked tests right ds base gv subs loose trees w H.scope fs k.operands_are k.ops) a (λ xs c1 g a1. (refl, (k.both xs g).0)) in (
+        let both : Same tests right base subs loose H Q (eval_all es [] c (λ xs c1. Ret xs c1)) (eval_all ts [] (erased c) (λ xs d1. Ret xs d1)) =
+        all_same tests right base subs loose H Q es ts (asked_of tests right base subs loose k.operands_are) [] c (λ xs c1. Ret xs c1) (λ xs d1. Ret xs d1) (given_asked tests right ds base subs loose trees w H.scope fs k.operands_are k.ops) a (λ xs c1 g a1. (refl, (k.both xs g).0)) in (
           note span k.made_of.ty k.class,
           k.made_of.shell,
           k.fields_given,
           trees_of k.operands_are,
           ap (λ (z : Typed). z.tree) (sym k.ends),
           given_by_name k.made_of.fields (shapes_in given_parts fs) k.fields_given k.placed,
-          λ d m. gave (our tests base gv subs loose).halted (λ xs c1. P xs) Q (Throws tests right base gv subs loose H)
-              (run (meaning (over_names tests ds base) d) (eval_all es [] c (λ xs c1. Ret xs c1)) m) (run (tree_meaning (program tests right ds base gv subs loose trees w) d) (eval_all ts [] (erased c) (λ xs d1. Ret xs d1)) m) (λ xs ys c1 g. g)
-              (twins_run (our tests base gv subs loose) (meaning (over_names tests ds base) d) (tree_meaning (program tests right ds base gv subs loose trees w) d) (all_meet tests right ds base gv subs loose trees w s o q d) Q (Throws tests right base gv subs loose H) (eval_all es [] c (λ xs c1. Ret xs c1)) (eval_all ts [] (erased c) (λ xs d1. Ret xs d1)) m both),
+          λ d m. gave (our tests base subs loose).halted (λ xs c1. P xs) Q (Throws tests right base subs loose H)
+              (run (meaning (over_names tests ds base) d) (eval_all es [] c (λ xs c1. Ret xs c1)) m) (run (tree_meaning (program tests right ds base subs loose trees w) d) (eval_all ts [] (erased c) (λ xs d1. Ret xs d1)) m) (λ xs ys c1 g. g)
+              (twins_run (our tests base subs loose) (meaning (over_names tests ds base) d) (tree_meaning (program tests right ds base subs loose trees w) d) (all_meet tests right ds base subs loose trees w s o q d) Q (Throws tests right base subs loose H) (eval_all es [] c (λ xs c1. Ret xs c1)) (eval_all ts [] (erased c) (λ xs d1. Ret xs d1)) m both),
         )
 
     -- ---- all forms
 
-    layer_chosen : (H : Here) (S : Typed) (layer : ExprLayer) (c : Core) → typed_rule tests (opened tests layer) H.scope ≡ Ok S → At tests base gv subs loose H c → ExprChosen (over_names tests ds base) layer S.tree c
+    layer_chosen : (H : Here) (S : Typed) (layer : ExprLayer) (c : Core) → typed_rule tests (opened tests layer) H.scope ≡ Ok S → At tests base subs loose H c → ExprChosen (over_names tests ds base) layer S.tree c
     layer_chosen H S (ex.Int span n) c h a = tt
     layer_chosen H S (ex.Bits span text) c h a = tt
     layer_chosen H S (ex.Bool span b) c h a = tt
@@ -152,7 +150,7 @@ module _ (tests : Tests) (right : IsRight tests) (ds : List Decl) (base : List E
     layer_chosen H S (ex.Conditional span e f g) c h a = tt
     layer_chosen H S (ex.Tuple span es) c h a = tt
     layer_chosen H S (ex.Construct span i fs) c h a = construct_chosen H S span i fs c h a
-    layer_chosen H S (ex.Call span i ps es) c h a = function_finds tests right ds base gv out loose heads trees w s heads_are bodies (all_meet tests right ds base gv subs loose trees w s o q) H S span i ps es c h a
+    layer_chosen H S (ex.Call span i ps es) c h a = function_finds tests right ds base out loose heads trees w s heads_are bodies (all_meet tests right ds base subs loose trees w s o q) H S span i ps es c h a
     layer_chosen H S (ex.Field span e i) c h a = field_chosen H S span e i c h a
     layer_chosen H S (ex.Fields span e is) c h a = bitfields_chosen H S span e is c h a
     layer_chosen H S (ex.Slices span e ss) c h a = tt
@@ -160,17 +158,17 @@ module _ (tests : Tests) (right : IsRight tests) (ds : List Decl) (base : List E
     layer_chosen H S (ex.As span e ty) c h a = tt
     layer_chosen H S (ex.In span e p) c h a = tt
 
-    pub expr_chosen : (H : Here) (S : Typed) (e : Expr) (c : Core) → typed tests e H.scope ≡ Ok S → At tests base gv subs loose H c → ExprChosen (over_names tests ds base) (out-Expr e) S.tree c
+    pub expr_chosen : (H : Here) (S : Typed) (e : Expr) (c : Core) → typed tests e H.scope ≡ Ok S → At tests base subs loose H c → ExprChosen (over_names tests ds base) (out-Expr e) S.tree c
     expr_chosen H S e c h a = layer_chosen H S (out-Expr e) c (sym (ap (λ (f : Found). f.typed H.scope) (unrolled tests e)) ∙ h) a
 
-    stmt_layer_chosen : (j : StmtClaim) (layer : StmtLayer) (c : Core) → stmt_layer_rule tests (stmt_opened tests layer) j.body ≡ Ok j.done → At tests base gv subs loose (here tests right ds base gv subs loose trees w j) c → StmtChosen (over_names tests ds base) (Agrees base gv j.body.scope.names j.present) layer j.done.act c
+    stmt_layer_chosen : (j : StmtClaim) (layer : StmtLayer) (c : Core) → stmt_layer_rule tests (stmt_opened tests layer) j.body ≡ Ok j.done → At tests base subs loose (here tests right ds base subs loose trees w j) c → StmtChosen (over_names tests ds base) (Agrees base j.body.scope.names j.present) layer j.done.act c
     stmt_layer_chosen j (st.Pass span) c h a = tt
     stmt_layer_chosen j (st.Unreachable span) c h a = tt
     stmt_layer_chosen j (st.Assert span e) c h a = tt
     stmt_layer_chosen j (st.Local span kind b ty e) c h a = tt
     stmt_layer_chosen j (st.LocalVars span is ty) c h a = tt
-    stmt_layer_chosen j (st.Assign span x e) c h a = assign_finds tests right ds base gv subs loose trees w j.present j.body.scope span x e j.done c h
-    stmt_layer_chosen j (st.Invoke span i ps es) c h a = procedure_finds tests right ds base gv out loose heads trees w s heads_are bodies (all_meet tests right ds base gv subs loose trees w s o q) j span i ps es c h a
+    stmt_layer_chosen j (st.Assign span x e) c h a = assign_finds tests right ds base subs loose trees w j.present j.body.scope span x e j.done c h
+    stmt_layer_chosen j (st.Invoke span i ps es) c h a = procedure_finds tests right ds base out loose heads trees w s heads_are bodies (all_meet tests right ds base subs loose trees w s o q) j span i ps es c h a
     stmt_layer_chosen j (st.If span e ss es last) c h a = tt
     stmt_layer_chosen j (st.Case span e alts last) c h a = tt
     stmt_layer_chosen j (st.For span i e d f limit ss) c h a = tt
@@ -181,7 +179,7 @@ module _ (tests : Tests) (right : IsRight tests) (ds : List Decl) (base : List E
     stmt_layer_chosen j (st.Try span ss cs last) c h a = tt
     stmt_layer_chosen j (st.Print span kind is) c h a = tt
 
-    pub stmt_chosen : (j : StmtClaim) (x : Stmt) (c : Core) → found_stmt tests x j.body ≡ Ok j.done → At tests base gv subs loose (here tests right ds base gv subs loose trees w j) c → StmtChosen (over_names tests ds base) (Agrees base gv j.body.scope.names j.present) (out-Stmt x) j.done.act c
+    pub stmt_chosen : (j : StmtClaim) (x : Stmt) (c : Core) → found_stmt tests x j.body ≡ Ok j.done → At tests base subs loose (here tests right ds base subs loose trees w j) c → StmtChosen (over_names tests ds base) (Agrees base j.body.scope.names j.present) (out-Stmt x) j.done.act c
     stmt_chosen j x c h a =
         let u : found_stmt tests x ≡ stmt_layer_rule tests (stmt_opened tests (out-Stmt x)) = fold_out-Stmt FoundAlternative FoundCatcher FoundBranch FoundOtherwise FoundStmt alternative_found catcher_found branch_found otherwise_found (stmt_layer_rule tests) x in
         stmt_layer_chosen j (out-Stmt x) c (sym (ap (λ (f : FoundStmt). f j.body) u) ∙ h) a

@@ -87,7 +87,7 @@ read_plain at ps (exception_with own supers n xs) y e = bad_good (Stuck WrongKin
 read_plain at ps (tuple_with xs) y e = bad_good (Stuck WrongKind at) y e
 read_plain at ps (array_with k xs) y e = bad_good (Stuck WrongKind at) y e
 
-module _ (tests : Tests) (right : IsRight tests) (ds : List Decl) (base : List Entry) (gv : Assignment) (subs : List Signature) (loose : Bool) (funcs : List TreeFunc) (w : WellNamed base) (av : Assignment) where
+module _ (tests : Tests) (right : IsRight tests) (ds : List Decl) (base : List Entry) (subs : List Signature) (loose : Bool) (funcs : List TreeFunc) (w : WellNamed base) (av : Assignment) where
   abbrev d : List ℕ → Option Ty
   d = types_in base
 
@@ -199,7 +199,7 @@ module _ (tests : Tests) (right : IsRight tests) (ds : List Decl) (base : List E
       subst (λ (z : Reached). SuffixesFind (p ∷ xs) z.steps x) e
       (suffix_finds G (up_to i p.end) p.suffix y.value T b.value q.value.steps x (SuffixesFind xs) t y.first b.first f
       (λ z k. suffixes_find G i xs zs.value b.value.ty q.value z c
-      (suffix_formed tests right ds base gv subs loose funcs w G (up_to i p.end) p.suffix y.value T b.value c t y.first b.first)
+      (suffix_formed tests right ds base subs loose funcs w G (up_to i p.end) p.suffix y.value T b.value c t y.first b.first)
       zs.first q.first k))
 
   -- ---- a place
@@ -208,15 +208,15 @@ module _ (tests : Tests) (right : IsRight tests) (ds : List Decl) (base : List E
   known_good at o x y e h = same_good x y (subst (λ z. known at z ≡ Good y) e h)
 
   place_finds : (G : Scope) (i : Ident) (xs : List PlacedSuffix) (ys : List TypedSuffix) (s : Storage) (r : Reached) (way : List ℕ) → typed_suffixes tests i xs G ≡ Ok ys → behind_suffixes ys s.ty G ≡ Ok r → standing_of i.text G.names ≡ Some (Stored s) →
-      PlaceFinds (Agrees base gv G.names av) (i, xs) (record { span = i.span; way = way; slot = slot_of i.text (layout_of G.names); steps = r.steps })
+      PlaceFinds (Agrees base G.names av) (i, xs) (record { span = i.span; way = way; slot = slot_of i.text (layout_of G.names); steps = r.steps })
   unfolding Fits
   place_finds G i xs ys s r way t g st c x a h =
       let o = or_value (value_of i.text c.frame) (value_of i.text c.globals) in
-      let f = found_at av d s o (finds av base gv G.names c i.text s a st) in
+      let f = found_at av d s o (finds av base G.names c i.text s a st) in
       let e = known_good i.span o f.one x f.is h in (
-        subst (λ z. value_at (slot_of i.text (layout_of G.names)) (erased c) ≡ Some z) e (slot_is f.one i.text G.names c (has_names av base gv G.names c w.outside a) f.is),
-        subst (SuffixesFind xs r.steps) e (suffixes_find G i xs ys s.ty r f.one (counts_held av base gv G.names c a)
-            (scope_good av base gv G.names c w a i.text (Stored s) st).0 t g (inl f.belongs)),
+        subst (λ z. value_at (slot_of i.text (layout_of G.names)) (erased c) ≡ Some z) e (slot_is f.one i.text G.names c (has_names av base G.names c w.outside a) f.is),
+        subst (SuffixesFind xs r.steps) e (suffixes_find G i xs ys s.ty r f.one (counts_held av base G.names c a)
+            (scope_good av base G.names c w a i.text (Stored s) st).0 t g (inl f.belongs)),
       )
 
   -- ---- the places of a target
@@ -280,7 +280,7 @@ module _ (tests : Tests) (right : IsRight tests) (ds : List Decl) (base : List E
 
   -- ---- all places
 
-  all_find : (G : Scope) (ns : NamedPlaces) (ps : List TypedPlace) (qs : List Placed) → AllNamed G ns ps → all_placed ps G ≡ Ok qs → PlacesFind (Agrees base gv G.names av) ns (tree_places qs)
+  all_find : (G : Scope) (ns : NamedPlaces) (ps : List TypedPlace) (qs : List Placed) → AllNamed G ns ps → all_placed ps G ≡ Ok qs → PlacesFind (Agrees base G.names av) ns (tree_places qs)
   all_find G [] [] qs n h = subst (λ z. tree_places z ≡ []) (ok_ok [] qs h) refl
   all_find G [] (p ∷ ps) qs n h = absurd n
   all_find G (m ∷ ns) [] qs n h = absurd n
@@ -296,10 +296,10 @@ module _ (tests : Tests) (right : IsRight tests) (ds : List Decl) (base : List E
       let at = placed_at p s.value r.value G.names in
       let are : at ∷ l.value ≡ qs = ap (λ v. v ∷ l.value) (ok_ok at q.value r.then) ∙ ok_ok (q.value ∷ l.value) qs l.then in
       let typed_so = subst (λ i. typed_suffixes tests i m.1 G ≡ Ok p.suffixes) n.0 n.1 in
-      subst (λ v. PlacesFind (Agrees base gv G.names av) (m ∷ ns) (tree_places v)) are
-      (subst (λ i. PlaceFinds (Agrees base gv G.names av) (i, m.1) at.place) (sym n.0) (place_finds G p.name m.1 p.suffixes s.value r.value p.way typed_so r.first stands), all_find G ns ps l.value n.2 l.first)
+      subst (λ v. PlacesFind (Agrees base G.names av) (m ∷ ns) (tree_places v)) are
+      (subst (λ i. PlaceFinds (Agrees base G.names av) (i, m.1) at.place) (sym n.0) (place_finds G p.name m.1 p.suffixes s.value r.value p.way typed_so r.first stands), all_find G ns ps l.value n.2 l.first)
 
-  pub assign_finds : (G : Scope) (span : Span) (t : Target) (e : Expr) (k : Done) (c : Core) → assign_rule tests span (found_target tests t) e G ≡ Ok k → StmtChosen (over_names tests ds base) (Agrees base gv G.names av) (st.Assign span t e) k.act c
+  pub assign_finds : (G : Scope) (span : Span) (t : Target) (e : Expr) (k : Done) (c : Core) → assign_rule tests span (found_target tests t) e G ≡ Ok k → StmtChosen (over_names tests ds base) (Agrees base G.names av) (st.Assign span t e) k.act c
   unfolding TargetNamed
   assign_finds G span t e k c h =
       let ps = bind_ok ((found_target tests t).places G) _ k h in

@@ -18,7 +18,7 @@ use Rattle.asl_rules.specs.runs.Forms.{function_gives, behind_all}
 use Rattle.asl_rules.specs.types.Shaped.{Shaped, itself, exprs_in, shapes_in, given_parts, slice_parts, pattern_parts, type_parts}
 use Rattle.asl_rules.specs.runs.ByNames.{matched_in, types_among}
 use Rattle.asl_rules.specs.declarations.Constants.{Known, before_runs, settled, constant_layer, constant}
-use Rattle.asl_rules.specs.declarations.Environments.{Environment}
+use Rattle.asl_rules.specs.declarations.Programs.{Environment}
 use Rattle.asl_rules.proofs.constants.KnownParts.{known_given, known_slice, known_pattern, known_type, known_layer, parts_of, shapes_of}
 use Rattle.asl_rules.proofs.constants.KnownParts.{given_known, slice_known, pattern_known, type_known, constant_out}
 use Rattle.asl_laws.proofs.constants.KnownTwins.{AllOf, OfBitfield, OfPart, OfField, OfPattern, OfSlice, OfType, ExprBelow, expr_trees}

@@ -25,8 +25,7 @@ use Rattle.asl_syn.specs.declared.tree.Param.{Param}
 use Rattle.asl_syn.specs.declared.tree.Func.{Func}
 use Rattle.asl_syn.specs.Layers.{ExprLayer, StmtLayer}
 use Rattle.asl_rules.specs.types.Alone.{Polynomials}
-use Rattle.asl_rules.specs.declarations.Environments.{Environment, funcs_of, origin}
-use Rattle.asl_rules.specs.declarations.Programs.{Entries}
+use Rattle.asl_rules.specs.declarations.Programs.{Environment, funcs_of, origin, Entries}
 use Rattle.asl_rules.specs.statements.Locals.{is_var}
 use Rattle.asl_rules.specs.values.Values.{Value, Exit}
 use Rattle.asl_rules.specs.runs.States.{Binding, Core, entered, restored, resting}
@@ -53,8 +52,7 @@ use Rattle.asl_rules.specs.runs.Evaluation.{choice_in, otherwise_in, held, Step,
 use Rattle.asl_rules.specs.runs.Evaluation.{updated, store_at, Stores, Assigning, assign_each, assigning_layer, assigned, stmt_node}
 use Rattle.asl_rules.specs.expressions.Exprs.{expr_span}
 use Rattle.asl_rules.specs.runs.Evaluation.{meaning, stmt_span}
-use Rattle.asl_rules.specs.runs.Limits.{most_open}
-use Rattle.asl_rules.specs.runs.Machines.{run_of}
+use Rattle.asl_rules.specs.runs.Machines.{most_open, run_of}
 use Rattle.asl_rules.specs.report.WordList.{Word}
 use Rattle.asl_rules.specs.runs.Words.{WordsEnd, AllReturned, WordThrew, WordHalted, behind_word, entry_for, run_word, run_words, word_line, word_value}
 use Rattle.asl_laws.proofs.names.SameConstants.{pure_same}

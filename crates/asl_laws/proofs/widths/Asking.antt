@@ -21,9 +21,9 @@ use Rattle.asl_rules.specs.types.Types.{Ty, Parts, no_part, part}
 use Rattle.asl_rules.specs.values.Members.{has_name}
 use Rattle.asl_rules.specs.declarations.Scopes.{Entry, Body, Param, fixed, variable, next_atom, is_free, body_names}
 use Rattle.asl_rules.specs.declarations.Turns.{names_of_program}
-use Rattle.asl_rules.specs.declarations.Signatures.{Head, params_free, formals_free, param_written, param_entry, type_or_itself, params_rule}
-use Rattle.asl_rules.specs.declarations.Signatures.{formals_rule, result_rule, limit_typed, params_are_integers, limit_rule, with_formals}
-use Rattle.asl_rules.specs.declarations.Signatures.{signature_rule}
+use Rattle.asl_rules.specs.declarations.Programs.{Head, params_free, formals_free, param_written, param_entry, type_or_itself, params_rule}
+use Rattle.asl_rules.specs.declarations.Programs.{formals_rule, result_rule, limit_typed, params_are_integers, limit_rule, with_formals}
+use Rattle.asl_rules.specs.declarations.Programs.{signature_rule}
 use Rattle.asl_rules.specs.expressions.Exprs.{written}
 use Rattle.asl_rules.specs.statements.Acting.{Done, FoundStmt, FoundOtherwise}
 use Rattle.asl_rules.specs.statements.Locals.{itself, names_rule, vars_rule}

@@ -20,7 +20,7 @@ use Rattle.asl_rules.specs.types.Alone.{polynomial}
 use Rattle.asl_rules.specs.types.Numbers.{Numbers}
 use Rattle.asl_rules.specs.runs.Evaluation.{width_over}
 use Rattle.asl_rules.specs.declarations.Declarations.{in_names}
-use Rattle.asl_rules.specs.declarations.Signatures.{params_free, param_written, param_entry, type_or_itself, params_rule}
+use Rattle.asl_rules.specs.declarations.Programs.{params_free, param_written, param_entry, type_or_itself, params_rule}
 use Rattle.asl_rules.proofs.basics.Inversions.{ok_ok, err_ok, bind_ok, then_ok, need_ok}
 use Rattle.asl_rules.proofs.basics.Tests.{no, some_none, none_some, both, same_name}
 use Rattle.asl_rules.proofs.widths.Counting.{standing_kept, standing_new, absent_is}

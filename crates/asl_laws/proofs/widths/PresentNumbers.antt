@@ -225,19 +225,19 @@ module _ (av : Assignment) where
   storage_or u (TypeName T) = None
   storage_or u (Label T x) = None
 
-  global_step : (d : List ℕ → Option Ty) (gv : Assignment) (name n : List ℕ) (st : Standing) (es : List Entry) (bs : List Binding) (s : Storage) (z : ℤ) → global_matches d gv n st bs (AllMatch d gv es) → cond (bytes_eq n name) (Some st) (standing_of name es) ≡ Some (Stored s) → ((b : Binding) → Says s z b) →
-      ((cs : List Binding) → AllMatch d gv es cs → standing_of name es ≡ Some (Stored s) → number_among name cs ≡ Some z) → number_among name bs ≡ Some z
+  global_step : (d : List ℕ → Option Ty) (name n : List ℕ) (st : Standing) (es : List Entry) (bs : List Binding) (s : Storage) (z : ℤ) → global_matches d n st bs (AllMatch d es) → cond (bytes_eq n name) (Some st) (standing_of name es) ≡ Some (Stored s) → ((b : Binding) → Says s z b) →
+      ((cs : List Binding) → AllMatch d es cs → standing_of name es ≡ Some (Stored s) → number_among name cs ≡ Some z) → number_among name bs ≡ Some z
   unfolding storage_or
-  global_step d gv name n Subprogram es bs s z m h f next = next bs m (skip (bytes_eq n name) Subprogram (standing_of name es) s (λ u e. none_some u (ap (storage_or u) e)) h)
-  global_step d gv name n (TypeName T) es bs s z m h f next = next bs m (skip (bytes_eq n name) (TypeName T) (standing_of name es) s (λ u e. none_some u (ap (storage_or u) e)) h)
-  global_step d gv name n (Label T x) es bs s z m h f next = next bs m (skip (bytes_eq n name) (Label T x) (standing_of name es) s (λ u e. none_some u (ap (storage_or u) e)) h)
-  global_step d gv name n (Stored u) es [] s z m h f next = absurd m
-  global_step d gv name n (Stored u) es (b ∷ bs) s z m h f next =
+  global_step d name n Subprogram es bs s z m h f next = next bs m (skip (bytes_eq n name) Subprogram (standing_of name es) s (λ u e. none_some u (ap (storage_or u) e)) h)
+  global_step d name n (TypeName T) es bs s z m h f next = next bs m (skip (bytes_eq n name) (TypeName T) (standing_of name es) s (λ u e. none_some u (ap (storage_or u) e)) h)
+  global_step d name n (Label T x) es bs s z m h f next = next bs m (skip (bytes_eq n name) (Label T x) (standing_of name es) s (λ u e. none_some u (ap (storage_or u) e)) h)
+  global_step d name n (Stored u) es [] s z m h f next = absurd m
+  global_step d name n (Stored u) es (b ∷ bs) s z m h f next =
       number_by (bytes_eq n name) name n s u z b (standing_of name es) (number_among name bs) refl m.0.holds.name_is m.0.holds.mutable_is m.0.holds.known (subst (λ o. CountsAs av o b.value) (sym m.0.no_atom) tt) h (f b) (next bs m.1)
 
-  global_number : (d : List ℕ → Option Ty) (gv : Assignment) (es : List Entry) (name : List ℕ) (s : Storage) (z : ℤ) (bs : List Binding) → AllMatch d gv es bs → standing_of name es ≡ Some (Stored s) → ((b : Binding) → Says s z b) → number_among name bs ≡ Some z
-  global_number d gv [] name s z bs m h f = none_some (Stored s) h
-  global_number d gv (e ∷ es) name s z bs m h f = global_step d gv name e.name e.standing es bs s z m h f (λ cs n k. global_number d gv es name s z cs n k f)
+  global_number : (d : List ℕ → Option Ty) (es : List Entry) (name : List ℕ) (s : Storage) (z : ℤ) (bs : List Binding) → AllMatch d es bs → standing_of name es ≡ Some (Stored s) → ((b : Binding) → Says s z b) → number_among name bs ≡ Some z
+  global_number d [] name s z bs m h f = none_some (Stored s) h
+  global_number d (e ∷ es) name s z bs m h f = global_step d name e.name e.standing es bs s z m h f (λ cs n k. global_number d es name s z cs n k f)
 
   -- a name without a value has no number
   none_by : (t : Bool) (b : Binding) (v : Option Value) (rest : Option ℤ) → cond t (Some b.value) v ≡ None → (v ≡ None → rest ≡ None) → cond t (fixed_number b) rest ≡ None
@@ -249,17 +249,17 @@ module _ (av : Assignment) where
   no_number name (b ∷ bs) h = none_by (bytes_eq b.name name) b (value_of name bs) (number_among name bs) h (no_number name bs)
 
   -- storage that stands for an integer
-  by_base : (base : List Entry) (gv : Assignment) (names : List Entry) (c : Core) (name : List ℕ) (s : Storage) (z : ℤ) (o : Option Standing) → standing_of name base ≡ o → (k : Agrees base gv names av c) → standing_of name names ≡ Some (Stored s) → ((b : Binding) → Says s z b) → present c name ≡ Some z
-  by_base base gv names c name s z None q k h f =
+  by_base : (base names : List Entry) (c : Core) (name : List ℕ) (s : Storage) (z : ℤ) (o : Option Standing) → standing_of name base ≡ o → (k : Agrees base names av c) → standing_of name names ≡ Some (Stored s) → ((b : Binding) → Says s z b) → present c name ≡ Some z
+  by_base base names c name s z None q k h f =
       let e : standing_of name k.locals ≡ Some (Stored s) = sym (ap (standing_of name) k.names_are ∙ behind base k.locals name q) ∙ h in
       ap (λ o. or_number o (number_among name c.globals)) (frame_number (types_in base) k.locals name s z c.frame k.frame e f)
-  by_base base gv names c name s z (Some st) q k h f =
+  by_base base names c name s z (Some st) q k h f =
       let e : standing_of name base ≡ Some (Stored s) = q ∙ sym (ap (standing_of name) k.names_are ∙ before_is base k.locals name st q) ∙ h in
       ap (λ o. or_number o (number_among name c.globals)) (no_number name c.frame (absent_value av (types_in base) base k.locals name st c.frame k.frame k.fresh q))
-      ∙ global_number (types_in base) gv base name s z c.globals k.globals e f
+      ∙ global_number (types_in base) base name s z c.globals k.globals e f
 
-  storage_number : (base : List Entry) (gv : Assignment) (names : List Entry) (c : Core) (name : List ℕ) (s : Storage) (z : ℤ) → Agrees base gv names av c → standing_of name names ≡ Some (Stored s) → ((b : Binding) → Says s z b) → present c name ≡ Some z
-  storage_number base gv names c name s z k h f = by_base base gv names c name s z (standing_of name base) refl k h f
+  storage_number : (base names : List Entry) (c : Core) (name : List ℕ) (s : Storage) (z : ℤ) → Agrees base names av c → standing_of name names ≡ Some (Stored s) → ((b : Binding) → Says s z b) → present c name ≡ Some z
+  storage_number base names c name s z k h f = by_base base names c name s z (standing_of name base) refl k h f
 
   -- a value that is known before any run is that of storage which can't be assigned
   known_fixed : (m : Bool) (i : Option Value) (x : Value) → cond m None i ≡ Some x → m ≡ false
@@ -273,80 +273,80 @@ module _ (av : Assignment) where
   counted_says s c b f e i k l = binding_number b (width_at c.poly av) (i ∙ f) (subst (λ o. CountsAs av o b.value) e l).0
 
   -- what counts in widths is whole
-  counted_whole : (base : List Entry) (gv : Assignment) (names : List Entry) (c : Core) (name : List ℕ) (s : Storage) (k : Counted) → Agrees base gv names av c →
+  counted_whole : (base names : List Entry) (c : Core) (name : List ℕ) (s : Storage) (k : Counted) → Agrees base names av c →
       standing_of name names ≡ Some (Stored s) → s.counted ≡ Some k → IsWholeAt av k.poly
-  counted_whole base gv names c name s k a h e =
-      counted_in (or_value (value_of name c.frame) (value_of name c.globals)) (finds av base gv names c name s a h)
+  counted_whole base names c name s k a h e =
+      counted_in (or_value (value_of name c.frame) (value_of name c.globals)) (finds av base names c name s a h)
     where
       counted_in : (o : Option Value) → Finds av (types_in base) s o → IsWholeAt av k.poly
       counted_in None f = absurd f
       counted_in (Some x) f = (subst (λ m. CountsAs av m x) e f.2).1
 
   -- and within the limits
-  pub counts_held : (base : List Entry) (gv : Assignment) (names : List Entry) (c : Core) → Agrees base gv names av c → CountsHeld names
-  counts_held base gv names c a name s k h e =
+  pub counts_held : (base names : List Entry) (c : Core) → Agrees base names av c → CountsHeld names
+  counts_held base names c a name s k h e =
       counted_in (or_value (value_of name c.frame) (value_of name c.globals))
-      (finds av base gv names c name s a (stored_of (standing_of name names) s h))
+      (finds av base names c name s a (stored_of (standing_of name names) s h))
     where
       counted_in : (o : Option Value) → Finds av (types_in base) s o → IsPolynomial k.poly
       counted_in None f = absurd f
       counted_in (Some x) f = (subst (λ m. CountsAs av m x) e f.2).2
 
   -- a name of storage in a width
-  stored_width : (base : List Entry) (gv : Assignment) (names : List Entry) (c : Core) (span : Span) (name : List ℕ) (s : Storage) (p : Polynomial) (o : Option Counted) (v : Option Value) → s.counted ≡ o → known_value s ≡ v → CountedFixed names → Agrees base gv names av c → standing_of name names ≡ Some (Stored s) →
+  stored_width : (base names : List Entry) (c : Core) (span : Span) (name : List ℕ) (s : Storage) (p : Polynomial) (o : Option Counted) (v : Option Value) → s.counted ≡ o → known_value s ≡ v → CountedFixed names → Agrees base names av c → standing_of name names ≡ Some (Stored s) →
       width_of_counted span o v ≡ Ok p → (present c name ≡ Some (width_at p av)) × IsWholeAt av p
-  stored_width base gv names c span name s p (Some k) v eo ev g a h w =
+  stored_width base names c span name s p (Some k) v eo ev g a h w =
       let same : k.poly ≡ p = ok_ok k.poly p w in (
-        storage_number base gv names c name s (width_at k.poly av) a h (λ b. counted_says s k b (g name s k h eo) eo) ∙ ap Some
+        storage_number base names c name s (width_at k.poly av) a h (λ b. counted_says s k b (g name s k h eo) eo) ∙ ap Some
             (ap (λ q. width_at q av) same),
-        subst (IsWholeAt av) same (counted_whole base gv names c name s k a h eo),
+        subst (IsWholeAt av) same (counted_whole base names c name s k a h eo),
       )
-  stored_width base gv names c span name s p None v eo ev g a h w =
+  stored_width base names c span name s p None v eo ev g a h w =
       let k = integer_of_width span v p w in
       let y = k.number in
       let u = then_ok (need (nat_le (weight_of y) heaviest) T20 span) (Ok (constant_map y)) p k.made in
       let same : constant_map y ≡ p = ok_ok (constant_map y) p u.then in (
-        storage_number base gv names c name s y a h (λ b. known_says s y b (ev ∙ k.is)) ∙ ap Some
+        storage_number base names c name s y a h (λ b. known_says s y b (ev ∙ k.is)) ∙ ap Some
             (sym (constant_at av y) ∙ ap (λ q. width_at q av) same),
         subst (IsWholeAt av) same (subst (λ z. HasWidth (constant_map y) av z) (sym (constant_at av y)) (int_end y av)),
       )
 
   -- and in a number
-  stored_number : (base : List Entry) (gv : Assignment) (names : List Entry) (c : Core) (span : Span) (name : List ℕ) (s : Storage) (z : ℤ) (o : Option Counted) (v : Option Value) → s.counted ≡ o → known_value s ≡ v → CountedFixed names → Agrees base gv names av c → standing_of name names ≡ Some (Stored s) →
+  stored_number : (base names : List Entry) (c : Core) (span : Span) (name : List ℕ) (s : Storage) (z : ℤ) (o : Option Counted) (v : Option Value) → s.counted ≡ o → known_value s ≡ v → CountedFixed names → Agrees base names av c → standing_of name names ≡ Some (Stored s) →
       number_of_counted span o v ≡ Ok z → present c name ≡ Some z
-  stored_number base gv names c span name s z (Some k) v eo ev g a h w =
-      storage_number base gv names c name s (width_at k.poly av) a h (λ b. counted_says s k b (g name s k h eo) eo)
+  stored_number base names c span name s z (Some k) v eo ev g a h w =
+      storage_number base names c name s (width_at k.poly av) a h (λ b. counted_says s k b (g name s k h eo) eo)
       ∙ ap Some (constant_width av k.poly z (constant_is av k.poly z (found_ok (constant_value k.poly) T19 span z w)))
-  stored_number base gv names c span name s z None v eo ev g a h w =
-      storage_number base gv names c name s z a h (λ b. known_says s z b (ev ∙ integer_of_number span v z w))
+  stored_number base names c span name s z None v eo ev g a h w =
+      storage_number base names c name s z a h (λ b. known_says s z b (ev ∙ integer_of_number span v z w))
 
-  width_name : (base : List Entry) (gv : Assignment) (names : List Entry) (c : Core) (span : Span) (name : List ℕ) (p : Polynomial) (o : Option Standing) →
-      standing_of name names ≡ o → CountedFixed names → Agrees base gv names av c → width_of_standing span o ≡ Ok p →
+  width_name : (base names : List Entry) (c : Core) (span : Span) (name : List ℕ) (p : Polynomial) (o : Option Standing) →
+      standing_of name names ≡ o → CountedFixed names → Agrees base names av c → width_of_standing span o ≡ Ok p →
       (present c name ≡ Some (width_at p av)) × IsWholeAt av p
-  width_name base gv names c span name p (Some (Stored s)) e g a h =
+  width_name base names c span name p (Some (Stored s)) e g a h =
       let u = then_ok (need (is_integer s.ty) T05 span) (width_of_counted span s.counted (known_value s)) p h in
-      stored_width base gv names c span name s p s.counted (known_value s) refl refl g a e u.then
-  width_name base gv names c span name p (Some (Label T x)) e g a h = err_ok (fault_of T05 span) p h
-  width_name base gv names c span name p (Some Subprogram) e g a h = err_ok (fault_of T02 span) p h
-  width_name base gv names c span name p (Some (TypeName T)) e g a h = err_ok (fault_of T02 span) p h
-  width_name base gv names c span name p None e g a h = err_ok (fault_of T02 span) p h
+      stored_width base names c span name s p s.counted (known_value s) refl refl g a e u.then
+  width_name base names c span name p (Some (Label T x)) e g a h = err_ok (fault_of T05 span) p h
+  width_name base names c span name p (Some Subprogram) e g a h = err_ok (fault_of T02 span) p h
+  width_name base names c span name p (Some (TypeName T)) e g a h = err_ok (fault_of T02 span) p h
+  width_name base names c span name p None e g a h = err_ok (fault_of T02 span) p h
 
-  number_name : (base : List Entry) (gv : Assignment) (names : List Entry) (c : Core) (span : Span) (name : List ℕ) (z : ℤ) (o : Option Standing) → standing_of name names ≡ o → CountedFixed names → Agrees base gv names av c → number_of_standing span o ≡ Ok z → present c name ≡ Some z
-  number_name base gv names c span name z (Some (Stored s)) e g a h =
+  number_name : (base names : List Entry) (c : Core) (span : Span) (name : List ℕ) (z : ℤ) (o : Option Standing) → standing_of name names ≡ o → CountedFixed names → Agrees base names av c → number_of_standing span o ≡ Ok z → present c name ≡ Some z
+  number_name base names c span name z (Some (Stored s)) e g a h =
       let u = then_ok (need (is_integer s.ty) T05 span) (number_of_counted span s.counted (known_value s)) z h in
-      stored_number base gv names c span name s z s.counted (known_value s) refl refl g a e u.then
-  number_name base gv names c span name z (Some (Label T x)) e g a h = err_ok (fault_of T05 span) z h
-  number_name base gv names c span name z (Some Subprogram) e g a h = err_ok (fault_of T02 span) z h
-  number_name base gv names c span name z (Some (TypeName T)) e g a h = err_ok (fault_of T02 span) z h
-  number_name base gv names c span name z None e g a h = err_ok (fault_of T02 span) z h
+      stored_number base names c span name s z s.counted (known_value s) refl refl g a e u.then
+  number_name base names c span name z (Some (Label T x)) e g a h = err_ok (fault_of T05 span) z h
+  number_name base names c span name z (Some Subprogram) e g a h = err_ok (fault_of T02 span) z h
+  number_name base names c span name z (Some (TypeName T)) e g a h = err_ok (fault_of T02 span) z h
+  number_name base names c span name z None e g a h = err_ok (fault_of T02 span) z h
 
   -- the integers of a state that agrees with a scope
-  pub present_agree : (base : List Entry) (gv : Assignment) (G : Scope) (c : Core) → CountedFixed G.names → Agrees base gv G.names av c → NumbersAgree (present c) av G
-  present_agree base gv G c g a = record {
-    widths = λ span name p h. width_name base gv G.names c span name p (standing_of name G.names) refl g a h;
-    numbers = λ span name z h. number_name base gv G.names c span name z (standing_of name G.names) refl g a h;
+  pub present_agree : (base : List Entry) (G : Scope) (c : Core) → CountedFixed G.names → Agrees base G.names av c → NumbersAgree (present c) av G
+  present_agree base G c g a = record {
+    widths = λ span name p h. width_name base G.names c span name p (standing_of name G.names) refl g a h;
+    numbers = λ span name z h. number_name base G.names c span name z (standing_of name G.names) refl g a h;
   }
 
   -- the integer of a global that is known before any run
-  pub outside_known : (base : List Entry) (gv : Assignment) (bs : List Binding) (name : List ℕ) (s : Storage) (y : ℤ) → GlobalsMatch base gv bs → standing_of name base ≡ Some (Stored s) → known_value s ≡ Some (int y) → number_among name bs ≡ Some y
-  outside_known base gv bs name s y m h e = global_number (types_in base) gv base name s y bs m h (λ b. known_says s y b e)
+  pub outside_known : (base : List Entry) (bs : List Binding) (name : List ℕ) (s : Storage) (y : ℤ) → GlobalsMatch base bs → standing_of name base ≡ Some (Stored s) → known_value s ≡ Some (int y) → number_among name bs ≡ Some y
+  outside_known base bs name s y m h e = global_number (types_in base) base name s y bs m h (λ b. known_says s y b e)

@@ -34,7 +34,7 @@ use Rattle.asl_rules.specs.declarations.Scopes.{Standing, Stored, Subprogram, Ty
 use Rattle.asl_rules.specs.expressions.Typing.{Width, Number}
 use Rattle.asl_rules.specs.expressions.Exprs.{found, width, expr_span}
 use Rattle.asl_rules.specs.values.Values.{Value, int}
-use Rattle.asl_rules.specs.declarations.Environments.{Environment}
+use Rattle.asl_rules.specs.declarations.Programs.{Environment}
 use Rattle.asl_rules.specs.runs.States.{Core}
 use Rattle.asl_rules.specs.runs.Trees.{TreeFunc}
 use Rattle.asl_rules.specs.private.Agreement.{IsPlain, AllPlain, CountsAs, Agrees}
@@ -76,8 +76,8 @@ unassigned : (b : Bool) (o : Option Counted) (k : Counted) → (b ≡ true → o
 unassigned true o k f q = none_some k (sym (f refl) ∙ q)
 unassigned false o k f q = refl
 
-counted_fixed : (base : List Entry) (gv : Assignment) (names : List Entry) (av : Assignment) (c : Core) → Agrees base gv names av c → CountedFixed names
-counted_fixed base gv names av c a n s k e q = by (standing_of n base) refl
+counted_fixed : (base names : List Entry) (av : Assignment) (c : Core) → Agrees base names av c → CountedFixed names
+counted_fixed base names av c a n s k e q = by (standing_of n base) refl
   where
     by : (o : Option Standing) → standing_of n base ≡ o → s.is_mutable ≡ false
     by None i =
@@ -85,7 +85,7 @@ counted_fixed base gv names av c a n s k e q = by (standing_of n base) refl
         unassigned s.is_mutable s.counted k (plain_at a.locals n s a.plain f).2 q
     by (Some st) i =
         let f = i ∙ sym (before_is base a.locals n st i) ∙ ap (standing_of n) (sym a.names_are) ∙ e in
-        counted_outside base gv c.globals a.globals n s k f q
+        counted_outside base c.globals a.globals n s k f q
 
 -- ---- outcomes
 
@@ -142,10 +142,10 @@ Has p av z = HasWidth p av z × IsPolynomial p
 has_of : (av : Assignment) (p : Polynomial) (y : ℤ) → IsWidth av p (int y) → Has p av y
 has_of av p y w = (subst (HasWidth p av) (sym (int_same y (width_at p av) w.0)) w.1, w.2)
 
-module _ (tests : Tests) (right : IsRight tests) (ds : List Decl) (base : List Entry) (gv : Assignment) (subs : List Signature) (funcs : List TreeFunc)
+module _ (tests : Tests) (right : IsRight tests) (ds : List Decl) (base : List Entry) (subs : List Signature) (funcs : List TreeFunc)
     (w : WellNamed base) where
   abbrev ours : Environment
-  ours = env tests right ds base gv subs true funcs w
+  ours = env tests right ds base subs true funcs w
 
   abbrev nodes_at : ℕ → Meaning Core Expr Stmt
   nodes_at d = meaning ours d
@@ -167,14 +167,14 @@ module _ (tests : Tests) (right : IsRight tests) (ds : List Decl) (base : List E
 
   -- a name of storage that holds an integer
   name_gives : (G : Scope) (av : Assignment) (c : Core) (span : Span) (name : List ℕ) (s : Storage) (P : ℤ → Type 0) (d : ℕ) (h : Meter) →
-      Agrees base gv G.names av c → standing_of name G.names ≡ Some (Stored s) → is_integer s.ty ≡ true →
+      Agrees base G.names av c → standing_of name G.names ≡ Some (Stored s) → is_integer s.ty ≡ true →
       ((y : ℤ) → ((v : ℤ) → known_value s ≡ Some (int v) → y ≡ v) → CountsAs av s.counted (int y) → P y) →
       GivesInteger c P (there span name c d h)
   name_gives G av c span name s P d h a q i k =
       let u = value_of name c.frame in
       let v = value_of name c.globals in
       let l = label_in (standing_of name base) in
-      let f = int_at tests right ds base gv subs true funcs w av s (or_value u v) (finds av base gv G.names c name s a q) i in
+      let f = int_at tests right ds base subs true funcs w av s (or_value u v) (finds av base G.names c name s a q) i in
       subst (λ o. GivesInteger c P (run (nodes_at d) (at_once (known span o) c) h)) (sym (or_further (int f.one) u v l f.is))
       ((f.one, refl, k f.one f.known f.counts), refl)
 
@@ -240,11 +240,11 @@ module _ (tests : Tests) (right : IsRight tests) (ds : List Decl) (base : List E
   -- ---- widths
 
   Wide : Expr → Scope → Polynomial → Type 0
-  Wide e G p = (av : Assignment) (c : Core) (d : ℕ) (h : Meter) → Agrees base gv G.names av c →
+  Wide e G p = (av : Assignment) (c : Core) (d : ℕ) (h : Meter) → Agrees base G.names av c →
       GivesInteger c (Has p av) ((nodes_at d).expr e c h)
 
   wide_name : (G : Scope) (av : Assignment) (c : Core) (span : Span) (name : List ℕ) (p : Polynomial) (o : Option Standing) →
-      (d : ℕ) (h : Meter) → Agrees base gv G.names av c → standing_of name G.names ≡ o → width_of_standing span o ≡ Ok p →
+      (d : ℕ) (h : Meter) → Agrees base G.names av c → standing_of name G.names ≡ o → width_of_standing span o ≡ Ok p →
       GivesInteger c (Has p av) (there span name c d h)
   wide_name G av c span name p (Some (Stored s)) d h a q k =
       let u = then_ok (need (is_integer s.ty) T05 span) (width_of_counted span s.counted (known_value s)) p k in
@@ -275,11 +275,11 @@ module _ (tests : Tests) (right : IsRight tests) (ds : List Decl) (base : List E
   -- ---- ends of constraints
 
   Whole : Expr → Scope → ℤ → Type 0
-  Whole e G z = (av : Assignment) (c : Core) (d : ℕ) (h : Meter) → Agrees base gv G.names av c →
+  Whole e G z = (av : Assignment) (c : Core) (d : ℕ) (h : Meter) → Agrees base G.names av c →
       GivesInteger c (λ y. y ≡ z) ((nodes_at d).expr e c h)
 
   whole_name : (G : Scope) (av : Assignment) (c : Core) (span : Span) (name : List ℕ) (z : ℤ) (o : Option Standing) →
-      (d : ℕ) (h : Meter) → Agrees base gv G.names av c → standing_of name G.names ≡ o → number_of_standing span o ≡ Ok z →
+      (d : ℕ) (h : Meter) → Agrees base G.names av c → standing_of name G.names ≡ o → number_of_standing span o ≡ Ok z →
       GivesInteger c (λ y. y ≡ z) (there span name c d h)
   whole_name G av c span name z (Some (Stored s)) d h a q k =
       let u = then_ok (need (is_integer s.ty) T05 span) (number_of_counted span s.counted (known_value s)) z k in
@@ -312,21 +312,21 @@ module _ (tests : Tests) (right : IsRight tests) (ds : List Decl) (base : List E
 
   -- ---- both are what the expressions are over fractions
 
-  names_agree : (G : Scope) (av : Assignment) (c : Core) → Agrees base gv G.names av c → NumbersAgree (present c) av G
-  names_agree G av c a = present_agree av base gv G c (counted_fixed base gv G.names av c a) a
+  names_agree : (G : Scope) (av : Assignment) (c : Core) → Agrees base G.names av c → NumbersAgree (present c) av G
+  names_agree G av c a = present_agree av base G c (counted_fixed base G.names av c a) a
 
   pub width_gives : (d : ℕ) (e : Expr) (G : Scope) (W : Width) (av : Assignment) (c : Core) (h : Meter) →
-      width tests e G ≡ Ok W → Agrees base gv G.names av c →
+      width tests e G ≡ Ok W → Agrees base G.names av c →
       GivesInteger c (λ z. HasWidth W.poly av z × HasNumber e c z) ((nodes_at d).expr e c h)
   unfolding Wide
   width_gives d e G W av c h k a =
-      let x = width_has (present c) av tests e G W (names_agree G av c a) (counts_held av base gv G.names c a) k in
+      let x = width_has (present c) av tests e G W (names_agree G av c a) (counts_held av base G.names c a) k in
       gives_more c (Has W.poly av) (λ z. HasWidth W.poly av z × HasNumber e c z) ((nodes_at d).expr e c h)
       (λ z i. (i.0, (x.number, x.is, same_trans x.number (fraction_at av W.poly) (whole z) x.held.lowest.positive x.same (width_whole av W.poly z i.0))))
       (by_width_forms tests Wide wide_forms e G W k av c d h a)
 
   pub number_gives : (d : ℕ) (e : Expr) (G : Scope) (N : Number) (av : Assignment) (c : Core) (h : Meter) →
-      (found tests e).number G ≡ Ok N → Agrees base gv G.names av c →
+      (found tests e).number G ≡ Ok N → Agrees base G.names av c →
       GivesInteger c (λ z. (z ≡ N.number) × HasNumber e c z) ((nodes_at d).expr e c h)
   unfolding Whole
   number_gives d e G N av c h k a =

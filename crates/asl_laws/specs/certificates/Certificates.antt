@@ -10,9 +10,7 @@ use Rattle.asl_rules.specs.Tests.{Tests}
 use Rattle.asl_rules.specs.declarations.Names.{names_rule, all_declared}
 use Rattle.asl_rules.specs.declarations.Uses.{cycles_rule}
 use Rattle.asl_rules.specs.declarations.Turns.{globals_rule}
-use Rattle.asl_rules.specs.declarations.Programs.{Accepted, verdict, ProgramOk}
-use Rattle.asl_rules.specs.declarations.Signatures.{Head, signatures, signatures_rule, overloads_rule}
-use Rattle.asl_rules.specs.declarations.Environments.{funcs_of}
+use Rattle.asl_rules.specs.declarations.Programs.{Accepted, Head, funcs_of, signatures, signatures_rule, overloads_rule, verdict, ProgramOk}
 use Rattle.asl_rules.specs.Faults.{◌>>=◌, ◌>>◌}
 use Rattle.asl_laws.specs.certificates.Texts.{Line, place_text, line_text, first_line, last_line}
 use Rattle.asl_laws.specs.certificates.Lines.{Lined, Failure, at_next, at_last, bodies_lines}

@@ -49,7 +49,7 @@ use Rattle.asl_rules.specs.statements.Acting.{Done, operand_of, reading_scope}
 use Rattle.asl_rules.specs.statements.Branches.{index_rule, index_type, with_index, is_exception, with_caught}
 use Rattle.asl_rules.specs.statements.Stmts.{found_stmt}
 use Rattle.asl_rules.specs.statements.Falling.{falls}
-use Rattle.asl_rules.specs.declarations.Signatures.{Head, body_of, may_end}
+use Rattle.asl_rules.specs.declarations.Programs.{Head, body_of, may_end}
 use Rattle.asl_laws.specs.certificates.Texts.{Place, of_expr, of_stmt, Line, Call, body_line, expr_line, stmt_line}
 
 -- ---- lines in order

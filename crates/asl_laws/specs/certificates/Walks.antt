@@ -15,7 +15,7 @@ use Rattle.asl_rules.specs.runs.Evaluation.{stmt_span}
 use Rattle.asl_rules.specs.declared.effect.Effect.{Effect}
 use Rattle.asl_rules.specs.declared.effect.Effect.TheVariants.{Pure}
 use Rattle.asl_rules.specs.Faults.{◌>>=◌}
-use Rattle.asl_rules.specs.declarations.Signatures.{Head, body_of, may_end, tree_func, body_rule}
+use Rattle.asl_rules.specs.declarations.Programs.{Head, body_of, may_end, tree_func, body_rule}
 use Rattle.asl_rules.specs.statements.Acting.{Done, FoundStmt, FoundOtherwise, in_order, reading_scope}
 use Rattle.asl_rules.specs.statements.Branches.{FoundBranch, FoundAlternative, FoundCatcher, index_type, with_index}
 use Rattle.asl_rules.specs.statements.Stmts.{stmt_layer_rule, found_stmt}

@@ -1,5 +1,5 @@
 -- Ways from node to node of a graph, and lists of the nodes that there is a way to.
-use Rattle.std.specs.Prelude.{◌≡◌, ℕ, ◌+◌, ◌<◌, ◌≤◌, ◌⊎◌, Bool, true, false, ◌&&◌, List, [], ◌∷◌, ◌++◌, length, slice_index}
+use Rattle.std.specs.Prelude.{◌≡◌, ℕ, ◌+◌, ◌<◌, ◌⊎◌, Bool, true, false, ◌&&◌, List, [], ◌∷◌, ◌++◌, length, slice_index}
 use Rattle.asl_turns.specs.Graphs.{Graph, row, has_mark, all_marked, is_among}
 
 -- how many have no mark
@@ -60,14 +60,6 @@ MarkedTo marks ns at = (i : ℕ) → i < at → has_mark marks (slice_index ns i
 abbrev pub ClosedTo : Graph → List Bool → List ℕ → ℕ → Type 0
 ClosedTo g marks nodes at = (i : ℕ) → i < at → all_marked marks (row g (slice_index nodes i)) ≡ true
 
--- there is a way to a node from one of those from a place on up to another
-abbrev pub HasWayFrom : Graph → ℕ → ℕ → ℕ → Type 0
-HasWayFrom g from to m = (n : ℕ) × (from ≤ n) × (n < to) × HasWay g n m
-
--- there is one to each of these
-abbrev pub Reached : Graph → ℕ → ℕ → List ℕ → Type 0
-Reached g from to nodes = (k : ℕ) → is_among k nodes ≡ true → HasWayFrom g from to k
-
--- all that is used by those up to this one has its mark
-abbrev pub StartedTo : Graph → List Bool → ℕ → ℕ → Type 0
-StartedTo g marks from at = (n : ℕ) → from ≤ n → n < at → all_marked marks (row g n) ≡ true
+-- each of these has a way from a node
+abbrev pub Reached : Graph → ℕ → List ℕ → Type 0
+Reached g start nodes = (k : ℕ) → is_among k nodes ≡ true → HasWay g start k

@@ -13,9 +13,10 @@ use Rattle.asl_bits.specs.Lists.{slice_of}
 use Rattle.asl_rules.specs.Tests.{Tests, IsRight}
 use Rattle.asl_rules.specs.types.Types.{Ty, Fields, View, BitField, bitfield_width, integer_of, boolean, bits_of, enumeration_of, record_of, exception_of, tuple_of, array_of, named, no_field, field, bits_wide, is_bits, view_of}
 use Rattle.asl_rules.specs.types.Closed as cl
-use Rattle.asl_rules.specs.types.Closed.{Assignment, Closed, ClosedFields, fields_with, width_at}
+use Rattle.asl_rules.specs.types.Closed.{Assignment, Closed, ClosedFields, type_with, fields_with, closed, width_at}
 use Rattle.asl_rules.specs.values.Members.{Member, a_field, a_bitfield, member_type, numbered, one_further, field_among, bitfield_in, member_of, bitfields_in, all_wide}
 use Rattle.asl_rules.specs.values.Values.{Value, FieldValues, bits_with, record_with, exception_with, no_value_of, value_of_field, is_width}
+use Rattle.asl_rules.specs.types.Views.{viewed}
 use Rattle.asl_rules.specs.private.WellFormed.{Shaped, AllInside, ShapedView, BuiltFields, FieldsSeen, Written, WellDeclared}
 use Rattle.asl_rules.specs.private.Belonging.{has_type, fields_have, InType}
 use Rattle.asl_rules.specs.private.Agreement.{no_atoms}
@@ -30,7 +31,7 @@ use Rattle.asl_rules.proofs.basics.Tests.{no, both, some_same, none_some, same_n
 use Rattle.asl_rules.proofs.values.SameKind.{number_is}
 use Rattle.asl_rules.proofs.values.Shapes.{named_parts}
 use Rattle.asl_rules.proofs.values.Keeping.{written_once}
-use Rattle.asl_rules.proofs.values.Viewing.{width_is, viewed_alike}
+use Rattle.asl_rules.proofs.values.Viewing.{width_is}
 use Rattle.asl_rules.proofs.expressions.OperatorForms.{Gives}
 use Rattle.asl_rules.proofs.values.Rounded.{constant_at}
 
@@ -150,26 +151,22 @@ module _ (d : List ℕ → Option Ty) (w : WellDeclared d) (av : Assignment) (te
       subst (λ z. FieldAt z f (value_of_field g x xs)) (some_same (0, T) q e) (record { one = x; by_name = ap (λ c. cond c (Some x) (field_value f xs)) b; by_number = refl; belongs = i })
   found_here false g f x xs T q o b i e next = further_back o q g f x xs e next b
 
-  fields_found : (fs : Fields) (xs : FieldValues) (f : List ℕ) (q : ℕ × Ty) → fields_have av xs fs ≡ true → FieldsSeen fs xs → BuiltFields d xs → numbered f fs ≡ Some q → FieldAt q f xs
-  fields_found no_field xs f q h s b e = none_some q e
-  fields_found (field i T fs) no_value_of f q h s b e = no h
-  fields_found (field i T fs) (value_of_field g x xs) f q h s b e =
+  fields_found : (fs : Fields) (xs : FieldValues) (f : List ℕ) (q : ℕ × Ty) → fields_have av xs fs ≡ true → FieldsSeen fs xs → fields_with fs av ≡ fields_with fs no_atoms → BuiltFields d xs → numbered f fs ≡ Some q → FieldAt q f xs
+  fields_found no_field xs f q h s c b e = none_some q e
+  fields_found (field i T fs) no_value_of f q h s c b e = no h
+  fields_found (field i T fs) (value_of_field g x xs) f q h s c b e =
       let p = both (bytes_eq g i) (has_type av x T && fields_have av xs fs) h in
       let r = both (has_type av x T) (fields_have av xs fs) p.1 in
-      found_here (bytes_eq g f) g f x xs T q (numbered f fs) refl (r.0, b.0, viewed_alike av no_atoms T x ∙ s.0)
+      let k : type_with T av ≡ closed T = same_first i i (type_with T av) (closed T) (fields_with fs av) (fields_with fs no_atoms) c in
+      found_here (bytes_eq g f) g f x xs T q (numbered f fs) refl (r.0, b.0, subst (λ V. viewed V x ≡ x) (sym k) s.0)
       (subst (λ j. cond (bytes_eq j f) (Some (0, T)) (one_further (numbered f fs)) ≡ Some q) (sym (same_name g i p.0)) e)
-      (λ m l. fields_found fs xs f m r.1 s.1 b.1 l)
+      (λ m l. fields_found fs xs f m r.1 s.1 (same_others i i (type_with T av) (closed T) (fields_with fs av) (fields_with fs no_atoms) c) b.1 l)
 
-  -- the fields of a declared type have no atoms
-  pub same_fields : (gv : Assignment) (m : List ℕ) (fs : Fields) → Written d m (record_of m fs) → fields_with fs av ≡ fields_with fs gv
-  same_fields gv m fs v =
-      let own = named m v.supers (record_of m fs) in
-      same_under m m v.supers (fields_with fs av) (fields_with fs gv) (w.fixed m own v.stands av ∙ sym (w.fixed m own v.stands gv))
+  pub no_atoms_in : (m : List ℕ) (fs : Fields) → Written d m (record_of m fs) → fields_with fs av ≡ fields_with fs no_atoms
+  no_atoms_in m fs v = same_under m m v.supers (fields_with fs av) (fields_with fs no_atoms) (w.fixed m (named m v.supers (record_of m fs)) v.stands av)
 
-  pub same_fields_of_exception : (gv : Assignment) (m : List ℕ) (fs : Fields) → Written d m (exception_of m fs) → fields_with fs av ≡ fields_with fs gv
-  same_fields_of_exception gv m fs v =
-      let own = named m v.supers (exception_of m fs) in
-      same_under_exception m m v.supers (fields_with fs av) (fields_with fs gv) (w.fixed m own v.stands av ∙ sym (w.fixed m own v.stands gv))
+  pub no_atoms_in_exception : (m : List ℕ) (fs : Fields) → Written d m (exception_of m fs) → fields_with fs av ≡ fields_with fs no_atoms
+  no_atoms_in_exception m fs v = same_under_exception m m v.supers (fields_with fs av) (fields_with fs no_atoms) (w.fixed m (named m v.supers (exception_of m fs)) v.stands av)
 
   -- what a member of a value is, by its place
   abbrev pub member_value : Span → Member → Value → Pure Value
@@ -214,12 +211,12 @@ module _ (d : List ℕ → Option Ty) (w : WellDeclared d) (av : Assignment) (te
   member_gives span f (record_of n fs) m (record_with k xs) t e i =
       let p = both (bytes_eq k n) (fields_have av xs fs) i.0 in
       let same : i.1.0.0 ≡ fs = same_record k n i.1.0.0 fs (written_once av tests right d k n (record_of k i.1.0.0) (record_of n fs) (same_name k n p.0) i.1.0.1 t.0) in
-      field_gives span f (numbered f fs) m xs (record_with k xs) refl (λ j. refl) e (λ q l. fields_found fs xs f q p.1 (subst (λ gs. FieldsSeen gs xs) same i.1.0.2) i.1.1 l)
+      field_gives span f (numbered f fs) m xs (record_with k xs) refl (λ j. refl) e (λ q l. fields_found fs xs f q p.1 (subst (λ gs. FieldsSeen gs xs) same i.1.0.2) (no_atoms_in n fs t.0) i.1.1 l)
   member_gives span f (exception_of n fs) m (exception_with own supers k xs) t e i =
       let p = both (bytes_eq k n) (fields_have av xs fs) i.0 in
       let b = i.1.1 in
       let same : b.0 ≡ fs = same_exception k n b.0 fs (written_once av tests right d k n (exception_of k b.0) (exception_of n fs) (same_name k n p.0) b.1 t.0) in
-      field_gives span f (numbered f fs) m xs (exception_with own supers k xs) refl (λ j. refl) e (λ q l. fields_found fs xs f q p.1 (subst (λ gs. FieldsSeen gs xs) same b.2) i.1.2 l)
+      field_gives span f (numbered f fs) m xs (exception_with own supers k xs) refl (λ j. refl) e (λ q l. fields_found fs xs f q p.1 (subst (λ gs. FieldsSeen gs xs) same b.2) (no_atoms_in_exception n fs t.0) i.1.2 l)
   member_gives span f (bits_of p u) m (bits_with bs v) t e i =
       subst (λ z. MemberGives span f m (bits_with bs z)) (same_view bs bs u v i.2)
       (bitfield_gives span f p u (bitfield_in f u) m bs refl t.1 e i.0)

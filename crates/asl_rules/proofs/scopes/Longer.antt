@@ -1,5 +1,5 @@
 -- The names that are visible after a statement are those before it, and behind them those that it declares.
-use Rattle.std.proofs.Common.{◌≡◌, ℕ, suc, ◌<◌, ◌≤◌, Bool, true, false, cond, List, [], ◌∷◌, ◌++◌, map, Option, Some, None, Ok, refl, sym, ap, ◌∙◌, subst, append_assoc, arith, inl, inr}
+use Rattle.std.proofs.Common.{◌≡◌, ℕ, suc, ◌<◌, ◌≤◌, Bool, true, false, cond, List, [], ◌∷◌, ◌++◌, map, Option, Some, None, Ok, refl, sym, ap, ◌∙◌, subst, append_assoc, arith}
 use Rattle.asl_syn.specs.declared.token.Span.{Span}
 use Rattle.asl_syn.specs.declared.code.StaticCode.TheVariants.{T01, T05}
 use Rattle.asl_syn.specs.declared.tree.Expr.{Expr}
@@ -118,8 +118,7 @@ atoms_more (e ∷ es) fs = by (is_local e.standing) (next_atom es) (next_atom (e
 
 -- what is the same on more names is so on fewer
 pub same_on_fewer : (names after : List Entry) (a b : Assignment) → Longer names after → SameOn after a b → SameOn names a b
-same_on_fewer names after a b l s n (inr o) = s n (inr o)
-same_on_fewer names after a b l s n (inl h) = s n (inl (subst (λ (es : List Entry). n < next_atom es) (sym l.is) (less n (next_atom names) (next_atom (names ++ l.more)) h (atoms_more names l.more))))
+same_on_fewer names after a b l s n h = s n (subst (λ (es : List Entry). n < next_atom es) (sym l.is) (less n (next_atom names) (next_atom (names ++ l.more)) h (atoms_more names l.more)))
   where
     less : (n m k : ℕ) → n < m → m ≤ k → n < k
     less n m k h l = omega arith

@@ -8,7 +8,7 @@ use Rattle.asl_rules.specs.declarations.Scopes.{Entry, Standing, Stored, Subprog
 use Rattle.asl_rules.specs.values.Values.{Value, has}
 use Rattle.asl_rules.specs.runs.States.{Binding, Core}
 use Rattle.asl_rules.specs.private.Belonging.{InType}
-use Rattle.asl_rules.specs.private.Agreement.{IsKnown, CountsAs, Holds, HoldsGlobal, types_in, AllMatch, global_matches, local_matches, FrameMatches, AllFresh, Agrees}
+use Rattle.asl_rules.specs.private.Agreement.{IsKnown, CountsAs, Holds, HoldsGlobal, no_atoms, types_in, AllMatch, global_matches, local_matches, FrameMatches, AllFresh, Agrees}
 use Rattle.asl_rules.specs.runs.Plans.{Pure, Good, Bad}
 use Rattle.asl_rules.specs.runs.Pures.{known}
 use Rattle.asl_rules.specs.runs.Evaluation.{value_of, or_value, held, label_in}
@@ -69,10 +69,10 @@ module _ (av : Assignment) where
   held_offers : (d : List ℕ → Option Ty) (n : List ℕ) (u : Storage) (b : Binding) → Holds d av n u b → Offers d n u b
   held_offers d n u b k = record { name_is = k.name_is; found = (k.belongs, k.known, k.counts) }
 
-  global_offers : (d : List ℕ → Option Ty) (gv : Assignment) (n : List ℕ) (u : Storage) (b : Binding) → HoldsGlobal d gv n u b → Offers d n u b
-  global_offers d gv n u b k =
+  global_offers : (d : List ℕ → Option Ty) (n : List ℕ) (u : Storage) (b : Binding) → HoldsGlobal d n u b → Offers d n u b
+  global_offers d n u b k =
       let i = k.holds.belongs in
-      let e : type_with u.ty gv ≡ type_with u.ty av = k.fixed gv ∙ sym (k.fixed av) in
+      let e : type_with u.ty no_atoms ≡ type_with u.ty av = k.fixed no_atoms ∙ sym (k.fixed av) in
       record { name_is = k.holds.name_is; found = ((subst (λ T. has b.value T ≡ true) e i.0, i.1, subst (λ T. viewed T b.value ≡ b.value) e i.2), k.holds.known, subst (λ o. CountsAs av o b.value) (sym k.no_atom) tt) }
 
   -- ---- among globals: the storage of a name has its value
@@ -90,17 +90,17 @@ module _ (av : Assignment) where
   skip_other true st o s n h = none_some s (sym n ∙ ap storage_in h)
   skip_other false st o s n h = h
 
-  global_by : (d : List ℕ → Option Ty) (gv : Assignment) (name n : List ℕ) (st : Standing) (es : List Entry) (bs : List Binding) (s : Storage) → global_matches d gv n st bs (AllMatch d gv es) → cond (bytes_eq n name) (Some st) (standing_of name es) ≡ Some (Stored s) →
-      ((cs : List Binding) → AllMatch d gv es cs → standing_of name es ≡ Some (Stored s) → Finds d s (value_of name cs)) → Finds d s (value_of name bs)
-  global_by d gv name n Subprogram es bs s m h next = next bs m (skip_other (bytes_eq n name) Subprogram (standing_of name es) s refl h)
-  global_by d gv name n (TypeName T) es bs s m h next = next bs m (skip_other (bytes_eq n name) (TypeName T) (standing_of name es) s refl h)
-  global_by d gv name n (Label T x) es bs s m h next = next bs m (skip_other (bytes_eq n name) (Label T x) (standing_of name es) s refl h)
-  global_by d gv name n (Stored u) es [] s m h next = absurd m
-  global_by d gv name n (Stored u) es (b ∷ bs) s m h next = global_at (bytes_eq n name) d name s b n u (standing_of name es) (value_of name bs) refl (global_offers d gv n u b m.0) h (next bs m.1)
+  global_by : (d : List ℕ → Option Ty) (name n : List ℕ) (st : Standing) (es : List Entry) (bs : List Binding) (s : Storage) → global_matches d n st bs (AllMatch d es) → cond (bytes_eq n name) (Some st) (standing_of name es) ≡ Some (Stored s) →
+      ((cs : List Binding) → AllMatch d es cs → standing_of name es ≡ Some (Stored s) → Finds d s (value_of name cs)) → Finds d s (value_of name bs)
+  global_by d name n Subprogram es bs s m h next = next bs m (skip_other (bytes_eq n name) Subprogram (standing_of name es) s refl h)
+  global_by d name n (TypeName T) es bs s m h next = next bs m (skip_other (bytes_eq n name) (TypeName T) (standing_of name es) s refl h)
+  global_by d name n (Label T x) es bs s m h next = next bs m (skip_other (bytes_eq n name) (Label T x) (standing_of name es) s refl h)
+  global_by d name n (Stored u) es [] s m h next = absurd m
+  global_by d name n (Stored u) es (b ∷ bs) s m h next = global_at (bytes_eq n name) d name s b n u (standing_of name es) (value_of name bs) refl (global_offers d n u b m.0) h (next bs m.1)
 
-  pub global_value : (d : List ℕ → Option Ty) (gv : Assignment) (es : List Entry) (name : List ℕ) (s : Storage) (bs : List Binding) → AllMatch d gv es bs → standing_of name es ≡ Some (Stored s) → Finds d s (value_of name bs)
-  global_value d gv [] name s bs m h = none_some (Stored s) h
-  global_value d gv (e ∷ es) name s bs m h = global_by d gv name e.name e.standing es bs s m h (global_value d gv es name s)
+  pub global_value : (d : List ℕ → Option Ty) (es : List Entry) (name : List ℕ) (s : Storage) (bs : List Binding) → AllMatch d es bs → standing_of name es ≡ Some (Stored s) → Finds d s (value_of name bs)
+  global_value d [] name s bs m h = none_some (Stored s) h
+  global_value d (e ∷ es) name s bs m h = global_by d name e.name e.standing es bs s m h (global_value d es name s)
 
   -- ---- in a frame
 
@@ -167,8 +167,8 @@ module _ (av : Assignment) where
   types_by base locals name (Some st) q k = ap type_in (sym (before_is base locals name st q))
 
   -- the declared types of a scope are those outside bodies
-  pub same_types : (base : List Entry) (gv : Assignment) (names : List Entry) (c : Core) (name : List ℕ) → Agrees base gv names av c → type_of_name name base ≡ type_of_name name names
-  same_types base gv names c name a =
+  pub same_types : (base names : List Entry) (c : Core) (name : List ℕ) → Agrees base names av c → type_of_name name base ≡ type_of_name name names
+  same_types base names c name a =
       types_by base a.locals name (standing_of name base) refl (all_stored (types_in base) a.locals c.frame name a.frame) ∙ ap (type_of_name name) (sym a.names_are)
 
   outside_by : (base locals : List Entry) (name : List ℕ) (T : Ty) (x : Value) (o : Option Standing) → standing_of name base ≡ o → IsStored (standing_of name locals) → standing_of name (base ++ locals) ≡ Some (Label T x) → standing_of name base ≡ Some (Label T x)
@@ -176,8 +176,8 @@ module _ (av : Assignment) where
   outside_by base locals name T x (Some st) q k h = q ∙ sym (before_is base locals name st q) ∙ h
 
   -- a label of a scope is one outside bodies
-  pub label_outside : (base : List Entry) (gv : Assignment) (names : List Entry) (c : Core) (name : List ℕ) (T : Ty) (x : Value) → Agrees base gv names av c → standing_of name names ≡ Some (Label T x) → standing_of name base ≡ Some (Label T x)
-  label_outside base gv names c name T x a h =
+  pub label_outside : (base names : List Entry) (c : Core) (name : List ℕ) (T : Ty) (x : Value) → Agrees base names av c → standing_of name names ≡ Some (Label T x) → standing_of name base ≡ Some (Label T x)
+  label_outside base names c name T x a h =
       outside_by base a.locals name T x (standing_of name base) refl (all_stored (types_in base) a.locals c.frame name a.frame) (ap (standing_of name) (sym a.names_are) ∙ h)
 
   -- the value of a name's storage
@@ -208,22 +208,22 @@ module _ (av : Assignment) where
   storage_standing (Some (TypeName T)) s h = none_some s h
   storage_standing (Some (Label T x)) s h = none_some s h
 
-  by_base : (d : List ℕ → Option Ty) (base : List Entry) (gv : Assignment) (locals : List Entry) (c : Core) (name : List ℕ) (s : Storage) (o : Option Standing) → standing_of name base ≡ o → AllFresh base locals → FrameMatches d av locals c.frame → AllMatch d gv base c.globals →
+  by_base : (d : List ℕ → Option Ty) (base locals : List Entry) (c : Core) (name : List ℕ) (s : Storage) (o : Option Standing) → standing_of name base ≡ o → AllFresh base locals → FrameMatches d av locals c.frame → AllMatch d base c.globals →
       standing_of name (base ++ locals) ≡ Some (Stored s) → Finds d s (or_value (value_of name c.frame) (value_of name c.globals))
-  by_base d base gv locals c name s None q f m g h = or_first d s (value_of name c.frame) (value_of name c.globals) (frame_value d locals name s c.frame m (sym (behind base locals name q) ∙ h))
-  by_base d base gv locals c name s (Some st) q f m g h =
+  by_base d base locals c name s None q f m g h = or_first d s (value_of name c.frame) (value_of name c.globals) (frame_value d locals name s c.frame m (sym (behind base locals name q) ∙ h))
+  by_base d base locals c name s (Some st) q f m g h =
       or_second d s (value_of name c.frame) (value_of name c.globals) (absent_value d base locals name st c.frame m f q)
-      (global_value d gv base name s c.globals g (q ∙ sym (before_is base locals name st q) ∙ h))
+      (global_value d base name s c.globals g (q ∙ sym (before_is base locals name st q) ∙ h))
 
-  pub finds : (base : List Entry) (gv : Assignment) (names : List Entry) (c : Core) (name : List ℕ) (s : Storage) → Agrees base gv names av c → standing_of name names ≡ Some (Stored s) → Finds (types_in base) s (or_value (value_of name c.frame) (value_of name c.globals))
-  finds base gv names c name s a h = by_base (types_in base) base gv a.locals c name s (standing_of name base) refl a.fresh a.frame a.globals (ap (standing_of name) (sym a.names_are) ∙ h)
+  pub finds : (base names : List Entry) (c : Core) (name : List ℕ) (s : Storage) → Agrees base names av c → standing_of name names ≡ Some (Stored s) → Finds (types_in base) s (or_value (value_of name c.frame) (value_of name c.globals))
+  finds base names c name s a h = by_base (types_in base) base a.locals c name s (standing_of name base) refl a.fresh a.frame a.globals (ap (standing_of name) (sym a.names_are) ∙ h)
 
-  pub held_value : (base : List Entry) (gv : Assignment) (names : List Entry) (c : Core) (span : Span) (name : List ℕ) (s : Storage) → Agrees base gv names av c → standing_of name names ≡ Some (Stored s) → Knows (types_in base) s (held span name c)
-  held_value base gv names c span name s a h = known_good (types_in base) s span _ (finds base gv names c name s a h)
+  pub held_value : (base names : List Entry) (c : Core) (span : Span) (name : List ℕ) (s : Storage) → Agrees base names av c → standing_of name names ≡ Some (Stored s) → Knows (types_in base) s (held span name c)
+  held_value base names c span name s a h = known_good (types_in base) s span _ (finds base names c name s a h)
 
-  pub named_value : (base : List Entry) (gv : Assignment) (names : List Entry) (c : Core) (span : Span) (name : List ℕ) (s : Storage) (label : Option Value) → Agrees base gv names av c → standing_of name names ≡ Some (Stored s) → Knows (types_in base) s (known span (or_value (value_of name c.frame) (or_value (value_of name c.globals) label)))
-  named_value base gv names c span name s label a h =
-      known_good (types_in base) s span _ (or_further (types_in base) s (value_of name c.frame) (value_of name c.globals) label (finds base gv names c name s a h))
+  pub named_value : (base names : List Entry) (c : Core) (span : Span) (name : List ℕ) (s : Storage) (label : Option Value) → Agrees base names av c → standing_of name names ≡ Some (Stored s) → Knows (types_in base) s (known span (or_value (value_of name c.frame) (or_value (value_of name c.globals) label)))
+  named_value base names c span name s label a h =
+      known_good (types_in base) s span _ (or_further (types_in base) s (value_of name c.frame) (value_of name c.globals) label (finds base names c name s a h))
 
   -- ---- labels: no storage has their names
 
@@ -234,46 +234,46 @@ module _ (av : Assignment) where
   skip_binding : (name n : List ℕ) (b : Binding) (bs : List Binding) → b.name ≡ n → bytes_eq n name ≡ false → value_of name bs ≡ None → value_of name (b ∷ bs) ≡ None
   skip_binding name n b bs e q h = ap (λ t. cond t (Some b.value) (value_of name bs)) (ap (λ l. bytes_eq l name) e ∙ q) ∙ h
 
-  none_by : (d : List ℕ → Option Ty) (gv : Assignment) (name n : List ℕ) (st : Standing) (es : List Entry) (bs : List Binding) → global_matches d gv n st bs (AllMatch d gv es) → cond (bytes_eq n name) (Some st) (standing_of name es) ≡ None →
-      ((cs : List Binding) → AllMatch d gv es cs → standing_of name es ≡ None → value_of name cs ≡ None) → value_of name bs ≡ None
-  none_by d gv name n Subprogram es bs m h next = next bs m (other_name (bytes_eq n name) name n Subprogram (standing_of name es) refl h).1
-  none_by d gv name n (TypeName T) es bs m h next = next bs m (other_name (bytes_eq n name) name n (TypeName T) (standing_of name es) refl h).1
-  none_by d gv name n (Label T x) es bs m h next = next bs m (other_name (bytes_eq n name) name n (Label T x) (standing_of name es) refl h).1
-  none_by d gv name n (Stored u) es [] m h next = absurd m
-  none_by d gv name n (Stored u) es (b ∷ bs) m h next =
+  none_by : (d : List ℕ → Option Ty) (name n : List ℕ) (st : Standing) (es : List Entry) (bs : List Binding) → global_matches d n st bs (AllMatch d es) → cond (bytes_eq n name) (Some st) (standing_of name es) ≡ None →
+      ((cs : List Binding) → AllMatch d es cs → standing_of name es ≡ None → value_of name cs ≡ None) → value_of name bs ≡ None
+  none_by d name n Subprogram es bs m h next = next bs m (other_name (bytes_eq n name) name n Subprogram (standing_of name es) refl h).1
+  none_by d name n (TypeName T) es bs m h next = next bs m (other_name (bytes_eq n name) name n (TypeName T) (standing_of name es) refl h).1
+  none_by d name n (Label T x) es bs m h next = next bs m (other_name (bytes_eq n name) name n (Label T x) (standing_of name es) refl h).1
+  none_by d name n (Stored u) es [] m h next = absurd m
+  none_by d name n (Stored u) es (b ∷ bs) m h next =
       let p = other_name (bytes_eq n name) name n (Stored u) (standing_of name es) refl h in
       skip_binding name n b bs m.0.holds.name_is p.0 (next bs m.1 p.1)
 
-  pub none_among : (d : List ℕ → Option Ty) (gv : Assignment) (es : List Entry) (name : List ℕ) (bs : List Binding) → AllMatch d gv es bs → standing_of name es ≡ None → value_of name bs ≡ None
-  none_among d gv [] name [] m h = refl
-  none_among d gv [] name (b ∷ bs) m h = absurd m
-  none_among d gv (e ∷ es) name bs m h = none_by d gv name e.name e.standing es bs m h (none_among d gv es name)
+  pub none_among : (d : List ℕ → Option Ty) (es : List Entry) (name : List ℕ) (bs : List Binding) → AllMatch d es bs → standing_of name es ≡ None → value_of name bs ≡ None
+  none_among d [] name [] m h = refl
+  none_among d [] name (b ∷ bs) m h = absurd m
+  none_among d (e ∷ es) name bs m h = none_by d name e.name e.standing es bs m h (none_among d es name)
 
   -- the name that is asked for, with a label, or a name further on
   label_first : {A : Type 0} (m : Bool) (name n : List ℕ) (st : Standing) (o : Option Standing) (T : Ty) (x : Value) → bytes_eq n name ≡ m → cond m (Some st) o ≡ Some (Label T x) → (n ≡ name → Some st ≡ Some (Label T x) → A) → (bytes_eq n name ≡ false → o ≡ Some (Label T x) → A) → A
   label_first true name n st o T x q h here further = here ((bytes_eq-Decides n name).0 q) h
   label_first false name n st o T x q h here further = further q h
 
-  label_by : (d : List ℕ → Option Ty) (gv : Assignment) (name n : List ℕ) (st : Standing) (es : List Entry) (bs : List Binding) (T : Ty) (x : Value) → apart_from n st es → global_matches d gv n st bs (AllMatch d gv es) → cond (bytes_eq n name) (Some st) (standing_of name es) ≡ Some (Label T x) →
-      ((cs : List Binding) → AllMatch d gv es cs → standing_of name es ≡ Some (Label T x) → value_of name cs ≡ None) → value_of name bs ≡ None
-  label_by d gv name n Subprogram es bs T x p m h next = label_first (bytes_eq n name) name n Subprogram (standing_of name es) T x refl h (λ e k. none_some x (ap label_in k)) (λ q k. next bs m k)
-  label_by d gv name n (TypeName U) es bs T x p m h next = label_first (bytes_eq n name) name n (TypeName U) (standing_of name es) T x refl h (λ e k. none_some x (ap label_in k)) (λ q k. next bs m k)
-  label_by d gv name n (Label U y) es bs T x p m h next =
-      label_first (bytes_eq n name) name n (Label U y) (standing_of name es) T x refl h (λ e k. none_among d gv es name bs m (ap (λ l. standing_of l es) (sym e) ∙ p)) (λ q k. next bs m k)
-  label_by d gv name n (Stored u) es [] T x p m h next = absurd m
-  label_by d gv name n (Stored u) es (b ∷ bs) T x p m h next =
+  label_by : (d : List ℕ → Option Ty) (name n : List ℕ) (st : Standing) (es : List Entry) (bs : List Binding) (T : Ty) (x : Value) → apart_from n st es → global_matches d n st bs (AllMatch d es) → cond (bytes_eq n name) (Some st) (standing_of name es) ≡ Some (Label T x) →
+      ((cs : List Binding) → AllMatch d es cs → standing_of name es ≡ Some (Label T x) → value_of name cs ≡ None) → value_of name bs ≡ None
+  label_by d name n Subprogram es bs T x p m h next = label_first (bytes_eq n name) name n Subprogram (standing_of name es) T x refl h (λ e k. none_some x (ap label_in k)) (λ q k. next bs m k)
+  label_by d name n (TypeName U) es bs T x p m h next = label_first (bytes_eq n name) name n (TypeName U) (standing_of name es) T x refl h (λ e k. none_some x (ap label_in k)) (λ q k. next bs m k)
+  label_by d name n (Label U y) es bs T x p m h next =
+      label_first (bytes_eq n name) name n (Label U y) (standing_of name es) T x refl h (λ e k. none_among d es name bs m (ap (λ l. standing_of l es) (sym e) ∙ p)) (λ q k. next bs m k)
+  label_by d name n (Stored u) es [] T x p m h next = absurd m
+  label_by d name n (Stored u) es (b ∷ bs) T x p m h next =
       label_first (bytes_eq n name) name n (Stored u) (standing_of name es) T x refl h (λ e k. none_some x (ap label_in k)) (λ q k. skip_binding name n b bs m.0.holds.name_is q (next bs m.1 k))
 
-  pub no_value : (d : List ℕ → Option Ty) (gv : Assignment) (es : List Entry) (name : List ℕ) (T : Ty) (x : Value) (bs : List Binding) → Apart es → AllMatch d gv es bs → standing_of name es ≡ Some (Label T x) → value_of name bs ≡ None
-  no_value d gv [] name T x bs p m h = none_some (Label T x) h
-  no_value d gv (e ∷ es) name T x bs p m h = label_by d gv name e.name e.standing es bs T x p.0 m h (λ cs k q. no_value d gv es name T x cs p.1 k q)
+  pub no_value : (d : List ℕ → Option Ty) (es : List Entry) (name : List ℕ) (T : Ty) (x : Value) (bs : List Binding) → Apart es → AllMatch d es bs → standing_of name es ≡ Some (Label T x) → value_of name bs ≡ None
+  no_value d [] name T x bs p m h = none_some (Label T x) h
+  no_value d (e ∷ es) name T x bs p m h = label_by d name e.name e.standing es bs T x p.0 m h (λ cs k q. no_value d es name T x cs p.1 k q)
 
-  pub label_value : (base : List Entry) (gv : Assignment) (names : List Entry) (c : Core) (span : Span) (name : List ℕ) (T : Ty) (x : Value) → Apart base → Agrees base gv names av c → standing_of name names ≡ Some (Label T x) →
+  pub label_value : (base names : List Entry) (c : Core) (span : Span) (name : List ℕ) (T : Ty) (x : Value) → Apart base → Agrees base names av c → standing_of name names ≡ Some (Label T x) →
       known span (or_value (value_of name c.frame) (or_value (value_of name c.globals) (label_in (standing_of name base)))) ≡ Good x
-  label_value base gv names c span name T x p a h =
-      let k : standing_of name base ≡ Some (Label T x) = label_outside base gv names c name T x a h in
+  label_value base names c span name T x p a h =
+      let k : standing_of name base ≡ Some (Label T x) = label_outside base names c name T x a h in
       let f : value_of name c.frame ≡ None = absent_value (types_in base) base a.locals name (Label T x) c.frame a.frame a.fresh k in
-      let g : value_of name c.globals ≡ None = no_value (types_in base) gv base name T x c.globals p a.globals k in
+      let g : value_of name c.globals ≡ None = no_value (types_in base) base name T x c.globals p a.globals k in
       ap (λ o. known span (or_value o (or_value (value_of name c.globals) (label_in (standing_of name base))))) f
       ∙ ap (λ o. known span (or_value o (label_in (standing_of name base)))) g
       ∙ ap (λ o. known span (label_in o)) k

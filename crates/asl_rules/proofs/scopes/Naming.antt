@@ -85,6 +85,6 @@ either_good : (d : List ℕ → Option Ty) (base locals : List Entry) (name : Li
 either_good d base locals name st None q g k h = k name st (sym (behind base locals name q) ∙ h)
 either_good d base locals name st (Some own) q g k h = g name st (q ∙ sym (before_is base locals name own q) ∙ h)
 
-pub scope_good : (av : Assignment) (base : List Entry) (gv : Assignment) (names : List Entry) (c : Core) → WellNamed base → Agrees base gv names av c → GoodNames (types_in base) names
-scope_good av base gv names c w a name st h =
+pub scope_good : (av : Assignment) (base names : List Entry) (c : Core) → WellNamed base → Agrees base names av c → GoodNames (types_in base) names
+scope_good av base names c w a name st h =
     either_good (types_in base) base a.locals name st (standing_of name base) refl w.good (locals_good av (types_in base) a.locals c.frame a.frame) (ap (standing_of name) (sym a.names_are) ∙ h)

@@ -89,21 +89,21 @@ abbrev pub AllOutside : List Entry → Type 0
 AllOutside [] = Unit {0}
 AllOutside (e ∷ es) = IsOutside e.standing × AllOutside es
 
-global_by : (d : List ℕ → Option Ty) (gv : Assignment) (n : List ℕ) (st : Standing) (es : List Entry) (bs : List Binding) → IsOutside st → global_matches d gv n st bs (AllMatch d gv es) → ((cs : List Binding) → AllMatch d gv es cs → global_names es ≡ binding_names cs) →
+global_by : (d : List ℕ → Option Ty) (n : List ℕ) (st : Standing) (es : List Entry) (bs : List Binding) → IsOutside st → global_matches d n st bs (AllMatch d es) → ((cs : List Binding) → AllMatch d es cs → global_names es ≡ binding_names cs) →
     global_name n st (global_names es) ≡ binding_names bs
 unfolding binding_names
-global_by d gv n Subprogram es bs o m next = next bs m
-global_by d gv n (TypeName T) es bs o m next = next bs m
-global_by d gv n (Label T x) es bs o m next = next bs m
-global_by d gv n (Stored s) es [] o m next = absurd m
-global_by d gv n (Stored s) es (b ∷ bs) o m next =
+global_by d n Subprogram es bs o m next = next bs m
+global_by d n (TypeName T) es bs o m next = next bs m
+global_by d n (Label T x) es bs o m next = next bs m
+global_by d n (Stored s) es [] o m next = absurd m
+global_by d n (Stored s) es (b ∷ bs) o m next =
     ap (λ g. cond g (n ∷ global_names es) (global_names es)) o ∙ ap (λ l. l ∷ global_names es) (sym m.0.holds.name_is) ∙ ap (λ ns. b.name ∷ ns) (next bs m.1)
 
-globals_are : (d : List ℕ → Option Ty) (gv : Assignment) (es : List Entry) (bs : List Binding) → AllOutside es → AllMatch d gv es bs → global_names es ≡ binding_names bs
+globals_are : (d : List ℕ → Option Ty) (es : List Entry) (bs : List Binding) → AllOutside es → AllMatch d es bs → global_names es ≡ binding_names bs
 unfolding binding_names
-globals_are d gv [] [] o m = refl
-globals_are d gv [] (b ∷ bs) o m = absurd m
-globals_are d gv (e ∷ es) bs o m = global_by d gv e.name e.standing es bs o.0 m (λ cs k. globals_are d gv es cs o.1 k)
+globals_are d [] [] o m = refl
+globals_are d [] (b ∷ bs) o m = absurd m
+globals_are d (e ∷ es) bs o m = global_by d e.name e.standing es bs o.0 m (λ cs k. globals_are d es cs o.1 k)
 
 -- the places of a state that agrees with a scope have the names of the layout
 pub record HasNames (names : List Entry) (c : Core) : Type 0 where
@@ -148,10 +148,10 @@ none_global a d [] (b ∷ bs) m h = absurd m
 none_global a d (e ∷ es) [] m h = absurd m
 none_global a d (e ∷ es) (b ∷ bs) m h = not_global a d e.name e.standing b (global_names es) m.0 h.0 ∙ none_global a d es bs m.1 h.1
 
-pub has_names : (a : Assignment) (base : List Entry) (gv : Assignment) (names : List Entry) (c : Core) → AllOutside base → Agrees base gv names a c → HasNames names c
-has_names a base gv names c o g = record {
+pub has_names : (a : Assignment) (base names : List Entry) (c : Core) → AllOutside base → Agrees base names a c → HasNames names c
+has_names a base names c o g = record {
   frame = ap local_names g.names_are ∙ locals_behind base g.locals o ∙ all_local a (types_in base) g.locals c.frame g.frame g.plain ∙ frame_names a (types_in base) g.locals c.frame g.frame;
-  globals = ap global_names g.names_are ∙ globals_behind base g.locals (none_global a (types_in base) g.locals c.frame g.frame g.plain) ∙ globals_are (types_in base) gv base c.globals o g.globals;
+  globals = ap global_names g.names_are ∙ globals_behind base g.locals (none_global a (types_in base) g.locals c.frame g.frame g.plain) ∙ globals_are (types_in base) base c.globals o g.globals;
 }
 
 -- ---- in a state

@@ -6,7 +6,7 @@ use Rattle.std.specs.Str.{bytes_eq}
 use Rattle.asl_syn.specs.declared.token.Span.{Span}
 use Rattle.asl_syn.specs.declared.code.DynCode.TheVariants.{D14, D16}
 use Rattle.asl_rules.specs.types.Types.{Ty, Fields, Parts, integer_of, boolean, bits_of, enumeration_of, record_of, exception_of, tuple_of, array_of, named, no_field, field, no_part, part, View, kind, kind_eq, is_among}
-use Rattle.asl_rules.specs.types.Closed.{Assignment, Closed, Range, not_above, in_one, in_some, is_in, lowest, first_in, width_at, constraint_at, type_with, fields_with, parts_with}
+use Rattle.asl_rules.specs.types.Closed.{Closed, Range, not_above, in_one, in_some, is_in, lowest, first_in, width_at, constraint_at, closed, fields_with, parts_with}
 use Rattle.asl_rules.specs.values.Values.{Value, FieldValues, Values, int, bool, bits_with, label, record_with, exception_with, tuple_with, array_with, no_value, value, no_value_of, value_of_field, count, is_exception, is_width, has, fields_in, parts_in, all_in, repeated, first_label, named_as}
 use Rattle.asl_rules.specs.types.Views.{viewed, parts_viewed, all_viewed}
 use Rattle.asl_rules.specs.private.WellFormed.{Built, BuiltAll, BuiltFields, SeenAs, FieldsSeen, Declared, HasLabel, Shaped, ShapedFields, ShapedParts, WellFormed, is_named, is_nameless_exception}
@@ -17,7 +17,6 @@ use Rattle.asl_rules.specs.runs.Pures.{◌>>=◌}
 use Rattle.asl_rules.specs.types.Written.{first_integer, first_bits, first_value, first_fields, first_parts}
 use Rattle.asl_rules.proofs.basics.Tests.{no, and_true, or_first, or_second, some_same, none_some, name_is}
 use Rattle.asl_rules.proofs.values.SameKind.{kind_is, number_is}
-use Rattle.asl_rules.proofs.values.Viewing.{viewed_alike}
 
 -- ---- what is good
 
@@ -127,15 +126,15 @@ called_so (record_with i xs) n supers = refl
 called_so (tuple_with xs) n supers = refl
 called_so (array_with k xs) n supers = refl
 
-renamed : (a : Assignment) (T : Ty) (x : Value) (n : List ℕ) (supers : List (List ℕ)) → is_named T ≡ false → has x (type_with T a) ≡ true → has (named_as n supers x) (type_with T a) ≡ true
-renamed a (named m others T) x n supers u h = no (sym u)
-renamed a T (exception_with own s i xs) n supers u h = h
-renamed a T x n supers u h = h
+renamed : (T : Ty) (x : Value) (n : List ℕ) (supers : List (List ℕ)) → is_named T ≡ false → has x (closed T) ≡ true → has (named_as n supers x) (closed T) ≡ true
+renamed (named m others T) x n supers u h = no (sym u)
+renamed T (exception_with own s i xs) n supers u h = h
+renamed T x n supers u h = h
 
-renamed_seen : (a : Assignment) (T : Ty) (x : Value) (n : List ℕ) (supers : List (List ℕ)) → is_named T ≡ false → viewed (type_with T a) x ≡ x → viewed (type_with T a) (named_as n supers x) ≡ named_as n supers x
-renamed_seen a (named m others T) x n supers u h = no (sym u)
-renamed_seen a T (exception_with own s i xs) n supers u h = refl
-renamed_seen a T x n supers u h = h
+renamed_seen : (T : Ty) (x : Value) (n : List ℕ) (supers : List (List ℕ)) → is_named T ≡ false → viewed (closed T) x ≡ x → viewed (closed T) (named_as n supers x) ≡ named_as n supers x
+renamed_seen (named m others T) x n supers u h = no (sym u)
+renamed_seen T (exception_with own s i xs) n supers u h = refl
+renamed_seen T x n supers u h = h
 
 -- the exceptions in the fields of an exception are built with declared types, whatever it is itself
 abbrev BuiltInside : (List ℕ → Option Ty) → Value → Type 0
@@ -166,117 +165,117 @@ renamed_built d (record_with i xs) n supers T v b = b
 renamed_built d (tuple_with xs) n supers T v b = b
 renamed_built d (array_with k xs) n supers T v b = b
 
-module _ (limit : ℕ) (span : Span) (d : List ℕ → Option Ty) (gv : Assignment) where
+module _ (limit : ℕ) (span : Span) (d : List ℕ → Option Ty) where
   record Starts (T : Ty) (x : Value) : Type 0 where
-    have : has x (type_with T gv) ≡ true
+    have : has x (closed T) ≡ true
     inside : BuiltInside d x
-    seen : viewed (type_with T gv) x ≡ x
+    seen : viewed (closed T) x ≡ x
 
   record FieldsStart (fs : Fields) (xs : FieldValues) : Type 0 where
-    have : fields_in xs (fields_with fs gv) ≡ true
+    have : fields_in xs (fields_with fs no_atoms) ≡ true
     built : BuiltFields d xs
     seen : FieldsSeen fs xs
 
   record PartsStart (ts : Parts) (xs : Values) : Type 0 where
-    have : parts_in xs (parts_with ts gv) ≡ true
+    have : parts_in xs (parts_with ts no_atoms) ≡ true
     built : BuiltAll d xs
-    seen : parts_viewed (parts_with ts gv) xs ≡ xs
+    seen : parts_viewed (parts_with ts no_atoms) xs ≡ xs
 
   -- an exception has a name where it is a field, a part or an element
-  with_name : (T : Ty) (x : Value) → is_nameless_exception T ≡ false → Shaped d T → first_value limit span (type_with T gv) ≡ Good x → BuiltInside d x → Built d x
+  with_name : (T : Ty) (x : Value) → is_nameless_exception T ≡ false → Shaped d T → first_value limit span (closed T) ≡ Good x → BuiltInside d x → Built d x
   with_name (named n supers T) x u s h b =
-      let r = good_behind (first_value limit span (type_with T gv)) (λ y. Good (named_as n supers y)) x h in
+      let r = good_behind (first_value limit span (closed T)) (λ y. Good (named_as n supers y)) x h in
       let e = good_same (named_as n supers r.one) x r.then in
       subst (Built d) e (renamed_built d r.one n supers T s.1 (subst (BuiltInside d) (sym e) b))
   with_name (exception_of n fs) x u s h b = no (sym u)
-  with_name (integer_of ps) x u s h b = let r = first_integer_is span (first_in (constraint_at ps gv)) x h in subst (Built d) r.value_is tt
+  with_name (integer_of ps) x u s h b = let r = first_integer_is span (first_in (constraint_at ps no_atoms)) x h in subst (Built d) r.value_is tt
   with_name boolean x u s h b = subst (Built d) (good_same (bool false) x h) tt
-  with_name (bits_of w v) x u s h b = let r = first_bits_are limit span (width_at w gv) v x h in subst (Built d) r.value_is tt
+  with_name (bits_of w v) x u s h b = let r = first_bits_are limit span (width_at w no_atoms) v x h in subst (Built d) r.value_is tt
   with_name (enumeration_of n labels) x u s h b = subst (Built d) (good_same (label n (first_label labels)) x h) tt
   with_name (record_of n fs) x u s h b =
-      let r = good_behind (first_fields limit span (fields_with fs gv)) (λ xs. Good (record_with n xs)) x h in
+      let r = good_behind (first_fields limit span (fields_with fs no_atoms)) (λ xs. Good (record_with n xs)) x h in
       let e = good_same (record_with n r.one) x r.then in
       subst (Built d) e (subst (BuiltInside d) (sym e) b)
   with_name (tuple_of ts) x u s h b =
-      let r = good_behind (first_parts limit span (parts_with ts gv)) (λ xs. Good (tuple_with xs)) x h in
+      let r = good_behind (first_parts limit span (parts_with ts no_atoms)) (λ xs. Good (tuple_with xs)) x h in
       let e = good_same (tuple_with r.one) x r.then in
       subst (Built d) e (subst (BuiltInside d) (sym e) b)
   with_name (array_of zero T) x u s h b = subst (Built d) (good_same (array_with (kind T) no_value) x h) tt
   with_name (array_of (suc n) T) x u s h b =
-      let r = good_behind (first_value limit span (type_with T gv)) (λ y. Good (array_with (kind T) (repeated (suc n) y))) x h in
+      let r = good_behind (first_value limit span (closed T)) (λ y. Good (array_with (kind T) (repeated (suc n) y))) x h in
       let e = good_same (array_with (kind T) (repeated (suc n) r.one)) x r.then in
       subst (Built d) e (subst (BuiltInside d) (sym e) b)
 
-  elements_have : (n : ℕ) (x : Value) (T : Ty) → all_in (repeated n x) (type_with T gv) ≡ true → ((kind_eq (kind T) (kind T) && (count (repeated n x) == n)) && all_in (repeated n x) (type_with T gv)) ≡ true
-  elements_have n x T h = and_true (kind_eq (kind T) (kind T) && (count (repeated n x) == n)) (all_in (repeated n x) (type_with T gv))
+  elements_have : (n : ℕ) (x : Value) (T : Ty) → all_in (repeated n x) (closed T) ≡ true → ((kind_eq (kind T) (kind T) && (count (repeated n x) == n)) && all_in (repeated n x) (closed T)) ≡ true
+  elements_have n x T h = and_true (kind_eq (kind T) (kind T) && (count (repeated n x) == n)) (all_in (repeated n x) (closed T))
       (and_true (kind_eq (kind T) (kind T)) (count (repeated n x) == n) (kind_is (kind T)) (subst (λ i. (i == n) ≡ true) (sym (count_repeated n x)) (number_is n))) h
 
   mutual
-    first_is : (T : Ty) → Shaped d T → (x : Value) → first_value limit span (type_with T gv) ≡ Good x → Starts T x
+    first_is : (T : Ty) → Shaped d T → (x : Value) → first_value limit span (closed T) ≡ Good x → Starts T x
     first_is (integer_of ps) s x h =
-        let r = first_integer_is span (first_in (constraint_at ps gv)) x h in
-        subst (Starts (integer_of ps)) r.value_is (record { have = first_is_in (constraint_at ps gv) r.one r.is; inside = tt; seen = refl })
+        let r = first_integer_is span (first_in (constraint_at ps no_atoms)) x h in
+        subst (Starts (integer_of ps)) r.value_is (record { have = first_is_in (constraint_at ps no_atoms) r.one r.is; inside = tt; seen = refl })
     first_is boolean s x h = subst (Starts boolean) (good_same (bool false) x h) (record { have = refl; inside = tt; seen = refl })
     first_is (bits_of w u) s x h =
-        let r = first_bits_are limit span (width_at w gv) u x h in
+        let r = first_bits_are limit span (width_at w no_atoms) u x h in
         subst (Starts (bits_of w u)) r.value_is (record { have = r.wide; inside = tt; seen = refl })
     first_is (enumeration_of n labels) s x h =
         subst (Starts (enumeration_of n labels)) (good_same (label n (first_label labels)) x h) (record { have = and_true (bytes_eq n n) (is_among (first_label labels) labels) (name_is n) (first_among labels s.1); inside = tt; seen = refl })
     first_is (record_of n fs) s x h =
-        let r = good_behind (first_fields limit span (fields_with fs gv)) (λ xs. Good (record_with n xs)) x h in
+        let r = good_behind (first_fields limit span (fields_with fs no_atoms)) (λ xs. Good (record_with n xs)) x h in
         let f = first_fields_are fs s.1 r.one r.is in
-        subst (Starts (record_of n fs)) (good_same (record_with n r.one) x r.then) (record { have = and_true (bytes_eq n n) (fields_in r.one (fields_with fs gv)) (name_is n) f.have; inside = ((fs, s.0, f.seen), f.built); seen = refl })
+        subst (Starts (record_of n fs)) (good_same (record_with n r.one) x r.then) (record { have = and_true (bytes_eq n n) (fields_in r.one (fields_with fs no_atoms)) (name_is n) f.have; inside = ((fs, s.0, f.seen), f.built); seen = refl })
     first_is (exception_of n fs) s x h =
-        let r = good_behind (first_fields limit span (fields_with fs gv)) (λ xs. Good (exception_with n [] n xs)) x h in
+        let r = good_behind (first_fields limit span (fields_with fs no_atoms)) (λ xs. Good (exception_with n [] n xs)) x h in
         let f = first_fields_are fs s.1 r.one r.is in
-        subst (Starts (exception_of n fs)) (good_same (exception_with n [] n r.one) x r.then) (record { have = and_true (bytes_eq n n) (fields_in r.one (fields_with fs gv)) (name_is n) f.have; inside = ((fs, s.0, f.seen), f.built); seen = refl })
+        subst (Starts (exception_of n fs)) (good_same (exception_with n [] n r.one) x r.then) (record { have = and_true (bytes_eq n n) (fields_in r.one (fields_with fs no_atoms)) (name_is n) f.have; inside = ((fs, s.0, f.seen), f.built); seen = refl })
     first_is (tuple_of ts) s x h =
-        let r = good_behind (first_parts limit span (parts_with ts gv)) (λ xs. Good (tuple_with xs)) x h in
+        let r = good_behind (first_parts limit span (parts_with ts no_atoms)) (λ xs. Good (tuple_with xs)) x h in
         let f = first_parts_are ts s r.one r.is in
         subst (Starts (tuple_of ts)) (good_same (tuple_with r.one) x r.then) (record { have = f.have; inside = f.built; seen = ap (λ ys. tuple_with ys) f.seen })
     first_is (array_of zero T) s x h = subst (Starts (array_of zero T)) (good_same (array_with (kind T) no_value) x h) (record { have = elements_have zero (int (pos 0)) T refl; inside = tt; seen = refl })
     first_is (array_of (suc n) T) s x h =
-        let r = good_behind (first_value limit span (type_with T gv)) (λ y. Good (array_with (kind T) (repeated (suc n) y))) x h in
+        let r = good_behind (first_value limit span (closed T)) (λ y. Good (array_with (kind T) (repeated (suc n) y))) x h in
         let f = first_is T s.1 r.one r.is in
         subst (Starts (array_of (suc n) T)) (good_same (array_with (kind T) (repeated (suc n) r.one)) x r.then) (record {
-          have = elements_have (suc n) r.one T (all_repeated (suc n) r.one (type_with T gv) f.have);
+          have = elements_have (suc n) r.one T (all_repeated (suc n) r.one (closed T) f.have);
           inside = repeated_built d (suc n) r.one (with_name T r.one s.0 s.1 r.is f.inside);
-          seen = ap (λ ys. array_with (kind T) ys) (repeated_seen (suc n) r.one (type_with T gv) f.seen);
+          seen = ap (λ ys. array_with (kind T) ys) (repeated_seen (suc n) r.one (closed T) f.seen);
         })
     first_is (named n supers T) s x h =
-        let r = good_behind (first_value limit span (type_with T gv)) (λ y. Good (named_as n supers y)) x h in
+        let r = good_behind (first_value limit span (closed T)) (λ y. Good (named_as n supers y)) x h in
         let f = first_is T s.2 r.one r.is in
         subst (Starts (named n supers T)) (good_same (named_as n supers r.one) x r.then) (record {
-          have = and_true (is_exception n (named_as n supers r.one)) (has (named_as n supers r.one) (type_with T gv)) (called_so r.one n supers) (renamed gv T r.one n supers s.0 f.have);
+          have = and_true (is_exception n (named_as n supers r.one)) (has (named_as n supers r.one) (closed T)) (called_so r.one n supers) (renamed T r.one n supers s.0 f.have);
           inside = renamed_inside d r.one n supers f.inside;
-          seen = renamed_seen gv T r.one n supers s.0 f.seen;
+          seen = renamed_seen T r.one n supers s.0 f.seen;
         })
 
-    first_fields_are : (fs : Fields) → ShapedFields d fs → (xs : FieldValues) → first_fields limit span (fields_with fs gv) ≡ Good xs → FieldsStart fs xs
+    first_fields_are : (fs : Fields) → ShapedFields d fs → (xs : FieldValues) → first_fields limit span (fields_with fs no_atoms) ≡ Good xs → FieldsStart fs xs
     first_fields_are no_field s xs h = subst (FieldsStart no_field) (good_same no_value_of xs h) (record { have = refl; built = tt; seen = tt })
     first_fields_are (field f T fs) s xs h =
-        let r = good_behind (first_value limit span (type_with T gv)) (λ x. first_fields limit span (fields_with fs gv) >>= λ ys. Good (value_of_field f x ys)) xs h in
-        let q = good_behind (first_fields limit span (fields_with fs gv)) (λ ys. Good (value_of_field f r.one ys)) xs r.then in
+        let r = good_behind (first_value limit span (closed T)) (λ x. first_fields limit span (fields_with fs no_atoms) >>= λ ys. Good (value_of_field f x ys)) xs h in
+        let q = good_behind (first_fields limit span (fields_with fs no_atoms)) (λ ys. Good (value_of_field f r.one ys)) xs r.then in
         let a = first_is T s.1 r.one r.is in
         let b = first_fields_are fs s.2 q.one q.is in
         subst (FieldsStart (field f T fs)) (good_same (value_of_field f r.one q.one) xs q.then) (record {
-          have = and_true (bytes_eq f f) (has r.one (type_with T gv) && fields_in q.one (fields_with fs gv)) (name_is f) (and_true (has r.one (type_with T gv)) (fields_in q.one (fields_with fs gv)) a.have b.have);
+          have = and_true (bytes_eq f f) (has r.one (closed T) && fields_in q.one (fields_with fs no_atoms)) (name_is f) (and_true (has r.one (closed T)) (fields_in q.one (fields_with fs no_atoms)) a.have b.have);
           built = (with_name T r.one s.0 s.1 r.is a.inside, b.built);
-          seen = (viewed_alike no_atoms gv T r.one ∙ a.seen, b.seen);
+          seen = (a.seen, b.seen);
         })
 
-    first_parts_are : (ts : Parts) → ShapedParts d ts → (xs : Values) → first_parts limit span (parts_with ts gv) ≡ Good xs → PartsStart ts xs
+    first_parts_are : (ts : Parts) → ShapedParts d ts → (xs : Values) → first_parts limit span (parts_with ts no_atoms) ≡ Good xs → PartsStart ts xs
     first_parts_are no_part s xs h = subst (PartsStart no_part) (good_same no_value xs h) (record { have = refl; built = tt; seen = refl })
     first_parts_are (part T ts) s xs h =
-        let r = good_behind (first_value limit span (type_with T gv)) (λ x. first_parts limit span (parts_with ts gv) >>= λ ys. Good (value x ys)) xs h in
-        let q = good_behind (first_parts limit span (parts_with ts gv)) (λ ys. Good (value r.one ys)) xs r.then in
+        let r = good_behind (first_value limit span (closed T)) (λ x. first_parts limit span (parts_with ts no_atoms) >>= λ ys. Good (value x ys)) xs h in
+        let q = good_behind (first_parts limit span (parts_with ts no_atoms)) (λ ys. Good (value r.one ys)) xs r.then in
         let a = first_is T s.1 r.one r.is in
         let b = first_parts_are ts s.2 q.one q.is in
         subst (PartsStart (part T ts)) (good_same (value r.one q.one) xs q.then) (record {
-          have = and_true (has r.one (type_with T gv)) (parts_in q.one (parts_with ts gv)) a.have b.have;
+          have = and_true (has r.one (closed T)) (parts_in q.one (parts_with ts no_atoms)) a.have b.have;
           built = (with_name T r.one s.0 s.1 r.is a.inside, b.built);
           seen = ap₂ (λ y ys. value y ys) a.seen b.seen;
         })
 
-  pub first_in_type : (T : Ty) → WellFormed d T → (x : Value) → first_value limit span (type_with T gv) ≡ Good x → InType d gv x T
+  pub first_in_type : (T : Ty) → WellFormed d T → (x : Value) → first_value limit span (closed T) ≡ Good x → InType d no_atoms x T
   first_in_type T w x h = let f = first_is T w.shaped x h in (f.have, with_name T x w.has_name w.shaped h f.inside, f.seen)

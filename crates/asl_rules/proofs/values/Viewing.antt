@@ -2,9 +2,9 @@
 -- changes nothing, and a value stored over one that went through the type has the type's bitfields.
 use Rattle.std.proofs.Common.{◌≡◌, ℕ, zero, suc, ℤ, pos, negsuc, ◌&&◌, Bool, true, false, List, refl, sym, ap, ap₂, ◌∙◌, subst, length}
 use Rattle.std.specs.Prelude.{◌==◌}
-use Rattle.asl_rules.specs.types.Types.{Ty, Parts, View, kind_eq, bits_of, tuple_of, array_of, named, part}
+use Rattle.asl_rules.specs.types.Types.{View, kind_eq}
 use Rattle.asl_rules.specs.types.Closed as cl
-use Rattle.asl_rules.specs.types.Closed.{Assignment, Closed, ClosedParts, is_in, type_with}
+use Rattle.asl_rules.specs.types.Closed.{Closed, ClosedParts, is_in}
 use Rattle.asl_rules.specs.values.Values.{Value, Values, int, bool, bits_with, label, record_with, exception_with, tuple_with, array_with, no_value, value, count, is_exception, is_width, has, parts_in, all_in}
 use Rattle.asl_rules.specs.types.Views.{viewed, parts_viewed, all_viewed, same_widths, all_same_widths, adopted, all_adopted}
 use Rattle.asl_rules.proofs.basics.Tests.{no, both, and_true}
@@ -234,21 +234,3 @@ mutual
       let p = both (has x T) (all_in xs T) h in
       let q = both (has y T) (all_in ys T) k in
       ap₂ value (adopted_viewed T x y p.0 q.0 (same_first (viewed T x) x (all_viewed T xs) xs e)) (all_adopted_viewed T xs ys p.1 q.1 (same_rest (viewed T x) x (all_viewed T xs) xs e) (same_suc (count xs) (count ys) c))
-
--- ---- whatever the atoms of a type stand for, a value goes through it in one way
-
-mutual
-  pub viewed_alike : (a b : Assignment) (T : Ty) (x : Value) → viewed (type_with T a) x ≡ viewed (type_with T b) x
-  viewed_alike a b (named n s T) x = viewed_alike a b T x
-  viewed_alike a b (bits_of p u) (bits_with bs v) = refl
-  viewed_alike a b (tuple_of ts) (tuple_with xs) = ap tuple_with (parts_viewed_alike a b ts xs)
-  viewed_alike a b (array_of n T) (array_with k xs) = ap (array_with k) (all_viewed_alike a b T xs)
-  viewed_alike a b T x = refl
-
-  parts_viewed_alike : (a b : Assignment) (ts : Parts) (xs : Values) → parts_viewed (cl.parts_with ts a) xs ≡ parts_viewed (cl.parts_with ts b) xs
-  parts_viewed_alike a b (part T ts) (value x xs) = ap₂ (λ y ys. value y ys) (viewed_alike a b T x) (parts_viewed_alike a b ts xs)
-  parts_viewed_alike a b ts xs = refl
-
-  all_viewed_alike : (a b : Assignment) (T : Ty) (xs : Values) → all_viewed (type_with T a) xs ≡ all_viewed (type_with T b) xs
-  all_viewed_alike a b T no_value = refl
-  all_viewed_alike a b T (value x xs) = ap₂ (λ y ys. value y ys) (viewed_alike a b T x) (all_viewed_alike a b T xs)

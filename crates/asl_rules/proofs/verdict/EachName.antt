@@ -5,8 +5,6 @@ use Rattle.std.specs.Prelude.{Result}
 use Rattle.std.specs.Str.{bytes_eq}
 use Rattle.asl_syn.specs.declared.code.Fault.{Fault}
 use Rattle.asl_syn.specs.declared.tree.Ident.{Ident}
-use Rattle.asl_syn.specs.declared.tree.Func.{Func}
-use Rattle.asl_syn.specs.declared.tree.TypeDecl.{TypeDecl}
 use Rattle.asl_syn.specs.declared.tree.StorageDecl.{StorageDecl}
 use Rattle.asl_syn.specs.declared.tree.Decl.{Decl}
 use Rattle.asl_syn.specs.declared.tree.Decl.TheVariants as dc
@@ -14,14 +12,10 @@ use Rattle.asl_rules.specs.Tests.{Tests}
 use Rattle.asl_rules.specs.types.Types.{boolean}
 use Rattle.asl_rules.specs.values.Values.{bool}
 use Rattle.asl_rules.specs.declarations.Names.{library, labels_of}
-use Rattle.asl_rules.specs.declarations.Scopes.{Entry, Scope, Standing, subprogram, global, standing_of}
-use Rattle.asl_rules.specs.declarations.Declarations.{type_decl_rule, storage_decl_rule}
-use Rattle.asl_rules.specs.declarations.Environments.{is_var}
-use Rattle.asl_rules.specs.declarations.Signatures.{signature_rule, body_rule}
-use Rattle.asl_rules.specs.declarations.Turns.{Brought, only_names, of_func, judged, SoFar, reserved, entries_or, entries, names_so_far}
-use Rattle.asl_rules.specs.declarations.Turns.{decls_so_far, scope_so_far, func_rule, decl_rule, turns, all_waiting}
+use Rattle.asl_rules.specs.declarations.Scopes.{Entry, Standing, subprogram, global, standing_of}
+use Rattle.asl_rules.specs.declarations.Declarations.{in_names, is_var, decl_rule}
+use Rattle.asl_rules.specs.declarations.Turns.{judged, SoFar, reserved, entries_or, entries, names_so_far, turns, all_waiting}
 use Rattle.asl_rules.specs.private.Judgements.{EachJudged}
-use Rattle.asl_rules.proofs.basics.Inversions.{ok_ok, bind_ok}
 use Rattle.asl_rules.proofs.basics.Tests.{some_same, none_some, same_name}
 use Rattle.asl_rules.proofs.scopes.EachOnce.{entries_keep}
 use Rattle.asl_rules.proofs.verdict.Distinct.{In}
@@ -68,18 +62,10 @@ module _ (P : Entry → Type 0) where
         entries_keep (EachName P) (name_more P) (λ e es h. ((h.0, tt), h.1)) (entries ds js) (map subprogram library)
         (entries_have ds js a) (all_subprograms library)
 
-    func_has : (t : Tests) (f : Func) (G : Scope) (b : Brought) → func_rule t f G ≡ Ok b → EachName P b.names
-    func_has t f G b h =
-        let u = bind_ok (signature_rule t G.names f) _ b h in
-        let v = bind_ok (body_rule t G.subs u.value) _ b u.then in
-        subst (λ (z : Brought). EachName P z.names) (ok_ok (of_func f u.value.signature) b v.then) (subprograms f.name.text, tt)
-
     module _ (t : Tests) (ds : List Decl)
         (stand_in : (d : StorageDecl) → In (dc.Storage d) ds → P (global d.name.text boolean (is_var d.kind) (bool false)))
-        (types : (js : SoFar) → EachName P (names_so_far ds js) → (d : TypeDecl) → In (dc.Type d) ds →
-        (es : List Entry) → type_decl_rule t d (scope_so_far ds js) ≡ Ok es → EachName P es)
-        (storage : (js : SoFar) → EachName P (names_so_far ds js) → (d : StorageDecl) → In (dc.Storage d) ds →
-        (es : List Entry) → storage_decl_rule t (decls_so_far ds js) d (scope_so_far ds js) ≡ Ok es → EachName P es) where
+        (brings : (d : Decl) → In d ds → (names : List Entry) → EachName P names →
+        (es : List Entry) → decl_rule t d (in_names names) ≡ Ok es → EachName P es) where
       reserved_have : (d : Decl) → In d ds → EachName P (reserved d)
       reserved_have (dc.Type d) i = (subprograms d.name.text, labels_have (labels_of d.def))
       reserved_have (dc.Storage d) i = (stand_in d i, tt)
@@ -90,26 +76,18 @@ module _ (P : Entry → Type 0) where
       waiting_have [] f = tt
       waiting_have (e ∷ es) f = (reserved_have e (f e (inl refl)), waiting_have es (λ d i. f d (inr i)))
 
-      decl_has : (js : SoFar) → EachName P (names_so_far ds js) → (d : Decl) → In d ds → (b : Brought) → decl_rule t ds js d ≡ Ok b →
-          EachName P b.names
-      decl_has js a (dc.Type d) i b h =
-          let u = bind_ok (type_decl_rule t d (scope_so_far ds js)) _ b h in
-          subst (λ (z : Brought). EachName P z.names) (ok_ok (only_names u.value) b u.then) (types js a d i u.value u.first)
-      decl_has js a (dc.Storage d) i b h =
-          let u = bind_ok (storage_decl_rule t (decls_so_far ds js) d (scope_so_far ds js)) _ b h in
-          subst (λ (z : Brought). EachName P z.names) (ok_ok (only_names u.value) b u.then) (storage js a d i u.value u.first)
-      decl_has js a (dc.Func f) i b h = func_has t f (scope_so_far ds js) b h
-
-      judged_has : (d : Decl) → In d ds → (r : Result Brought Fault) → ((b : Brought) → r ≡ Ok b → EachName P b.names) →
+      judged_has : (d : Decl) → In d ds → (r : Result (List Entry) Fault) → ((es : List Entry) → r ≡ Ok es → EachName P es) →
           EachName P (entries_or d (judged r))
-      judged_has d i (Ok b) f = f b refl
+      judged_has d i (Ok es) f = f es refl
       judged_has d i (Err e) f = reserved_have d i
 
       -- of what stands in the places of each declaration, after any number of turns
       pub all_have : (n : ℕ) → EachJudged (λ d j. EachName P (entries_or d j)) ds (turns t n ds (all_waiting ds))
       all_have n =
           turns_hold t ds (λ d j. EachName P (entries_or d j))
-          (λ js a d i r. judged_has d i (decl_rule t ds js d) (decl_has js (names_have ds js a) d i))
+          (λ js a d i r.
+          let names = names_so_far ds js in
+          judged_has d i (decl_rule t d (in_names names)) (brings d i names (names_have ds js a)))
           n (all_waiting ds) (waiting_have ds (λ d i. i))
 
       -- and so of each name that is visible then

@@ -9,7 +9,6 @@ use Rattle.asl_syn.specs.declared.tree.TypeDef.{TypeDef}
 use Rattle.asl_syn.specs.declared.tree.TypeDef.TheVariants as td
 use Rattle.asl_syn.specs.declared.tree.TypeDecl.{TypeDecl}
 use Rattle.asl_syn.specs.declared.tree.StorageDecl.{StorageDecl}
-use Rattle.asl_syn.specs.declared.tree.Func.{Func}
 use Rattle.asl_syn.specs.declared.tree.Decl.{Decl}
 use Rattle.asl_syn.specs.declared.tree.Decl.TheVariants as dc
 use Rattle.asl_rules.specs.Tests.{Tests}
@@ -17,12 +16,9 @@ use Rattle.asl_rules.specs.types.Types.{Ty, named, structure}
 use Rattle.asl_rules.specs.values.Values.{label}
 use Rattle.asl_rules.specs.declarations.Names.{library, declared_as, declared_by, labels_of, all_declared}
 use Rattle.asl_rules.specs.declarations.Scopes.{Entry, Scope, Standing, subprogram, global, label_name, standing_of}
-use Rattle.asl_rules.specs.declarations.Declarations.{def_rule, supertype_rule, label_entries, type_entries, type_decl_rule}
-use Rattle.asl_rules.specs.declarations.Declarations.{storage_rule, storage_decl_rule}
-use Rattle.asl_rules.specs.declarations.Signatures.{signature_rule, body_rule}
-use Rattle.asl_rules.specs.declarations.Environments.{is_var}
-use Rattle.asl_rules.specs.declarations.Turns.{Brought, only_names, of_func, Judged, judged, SoFar, reserved, entries_or, entries}
-use Rattle.asl_rules.specs.declarations.Turns.{names_so_far, decls_so_far, scope_so_far, func_rule, decl_rule, decl_judged, turns}
+use Rattle.asl_rules.specs.declarations.Declarations.{in_names, def_rule, supertype_rule, label_entries, type_entries, type_decl_rule}
+use Rattle.asl_rules.specs.declarations.Declarations.{storage_rule, storage_decl_rule, is_var, decl_rule}
+use Rattle.asl_rules.specs.declarations.Turns.{Judged, judged, SoFar, reserved, entries_or, entries, names_so_far, decl_judged, turns}
 use Rattle.asl_rules.specs.declarations.Turns.{all_waiting, final}
 use Rattle.asl_rules.specs.private.Judgements.{EachJudged, CameOf}
 use Rattle.asl_rules.proofs.basics.Inversions.{ok_ok, bind_ok}
@@ -54,30 +50,17 @@ type_named t d G es h =
     let T = named d.name.text s.value (structure u.value) in
     subst (AllNamed (declared_by (dc.Type d))) (ok_ok (type_entries d T) es s.then) (refl, tt, def_named d.def d.name.text T)
 
-storage_named : (t : Tests) (ds : List Decl) (d : StorageDecl) (G : Scope) (es : List Entry) → storage_decl_rule t ds d G ≡ Ok es →
+storage_named : (t : Tests) (d : StorageDecl) (G : Scope) (es : List Entry) → storage_decl_rule t d G ≡ Ok es →
     AllNamed (declared_by (dc.Storage d)) es
-storage_named t ds d G es h =
-    let s = bind_ok (storage_rule t ds d (is_var d.kind) d.ty d.init G) _ es h in
+storage_named t d G es h =
+    let s = bind_ok (storage_rule t d (is_var d.kind) d.ty d.init G) _ es h in
     let e = global d.name.text s.value.ty (is_var d.kind) s.value.value in
     subst (AllNamed (declared_by (dc.Storage d))) (ok_ok (e ∷ []) es s.then) (refl, tt, tt)
 
-func_named : (t : Tests) (f : Func) (G : Scope) (b : Brought) → func_rule t f G ≡ Ok b → AllNamed (declared_by (dc.Func f)) b.names
-func_named t f G b h =
-    let u = bind_ok (signature_rule t G.names f) _ b h in
-    let v = bind_ok (body_rule t G.subs u.value) _ b u.then in
-    subst (λ (z : Brought). AllNamed (declared_by (dc.Func f)) z.names) (ok_ok (of_func f u.value.signature) b v.then) (refl, refl, tt)
-
-pub decl_named : (t : Tests) (ds : List Decl) (js : SoFar) (d : Decl) (b : Brought) → decl_rule t ds js d ≡ Ok b →
-    AllNamed (declared_by d) b.names
-decl_named t ds js (dc.Type d) b h =
-    let u = bind_ok (type_decl_rule t d (scope_so_far ds js)) _ b h in
-    subst (λ (z : Brought). AllNamed (declared_by (dc.Type d)) z.names) (ok_ok (only_names u.value) b u.then)
-    (type_named t d (scope_so_far ds js) u.value u.first)
-decl_named t ds js (dc.Storage d) b h =
-    let u = bind_ok (storage_decl_rule t (decls_so_far ds js) d (scope_so_far ds js)) _ b h in
-    subst (λ (z : Brought). AllNamed (declared_by (dc.Storage d)) z.names) (ok_ok (only_names u.value) b u.then)
-    (storage_named t (decls_so_far ds js) d (scope_so_far ds js) u.value u.first)
-decl_named t ds js (dc.Func f) b h = func_named t f (scope_so_far ds js) b h
+pub decl_named : (t : Tests) (d : Decl) (G : Scope) (es : List Entry) → decl_rule t d G ≡ Ok es → AllNamed (declared_by d) es
+decl_named t (dc.Type d) G es h = type_named t d G es h
+decl_named t (dc.Storage d) G es h = storage_named t d G es h
+decl_named t (dc.Func f) G es h = subst (AllNamed (declared_by (dc.Func f))) (ok_ok (subprogram f.name.text ∷ []) es h) (refl, refl, tt)
 
 -- ---- and so have the stand-ins
 
@@ -94,20 +77,20 @@ reserved_names (dc.Func f) = (refl, (λ h. refl), tt)
 abbrev pub StandsIn : Decl → Judged → Type 0
 StandsIn d j = HasNames (declared_by d) (entries_or d j)
 
-judged_stands : (d : Decl) (r : Result Brought Fault) → ((b : Brought) → r ≡ Ok b → AllNamed (declared_by d) b.names) →
+judged_stands : (d : Decl) (r : Result (List Entry) Fault) → ((es : List Entry) → r ≡ Ok es → AllNamed (declared_by d) es) →
     StandsIn d (judged r)
-judged_stands d (Ok b) f = has_names (declared_by d) b.names (f b refl)
+judged_stands d (Ok es) f = has_names (declared_by d) es (f es refl)
 judged_stands d (Err e) f = reserved_names d
 
-pub decl_stands : (t : Tests) (ds : List Decl) (js : SoFar) (d : Decl) → StandsIn d (decl_judged t ds js d)
-decl_stands t ds js d = judged_stands d (decl_rule t ds js d) (decl_named t ds js d)
+pub decl_stands : (t : Tests) (d : Decl) (names : List Entry) → StandsIn d (decl_judged t d names)
+decl_stands t d names = judged_stands d (decl_rule t d (in_names names)) (λ es h. decl_named t d (in_names names) es h)
 
 abbrev pub AllStand : List Decl → SoFar → Type 0
 AllStand ds js = EachJudged StandsIn ds js
 
 -- after so many turns, and at the end
 pub turns_stand : (t : Tests) (ds : List Decl) (n : ℕ) → AllStand ds (turns t n ds (all_waiting ds))
-turns_stand t ds n = turns_hold t ds StandsIn (λ js a d i r. decl_stands t ds js d) n (all_waiting ds)
+turns_stand t ds n = turns_hold t ds StandsIn (λ js a d i r. decl_stands t d (names_so_far ds js)) n (all_waiting ds)
     (each_waiting StandsIn reserved_names ds)
 
 pub final_stands : (t : Tests) (ds : List Decl) → AllStand ds (final t ds)

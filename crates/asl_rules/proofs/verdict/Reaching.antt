@@ -4,7 +4,7 @@ use Rattle.asl_syn.specs.declared.code.StaticCode.TheVariants.{T03}
 use Rattle.asl_syn.specs.declared.tree.Decl.{Decl}
 use Rattle.asl_syn.specs.declared.tree.Decl.TheVariants as dc
 use Rattle.asl_rules.specs.Faults.{◌>>◌, need}
-use Rattle.asl_rules.specs.declarations.Uses.{uses_one_of, leads_by, leads_to, reaches_itself, name_in, cycles_rule}
+use Rattle.asl_rules.specs.declarations.Uses.{uses_one_of, leads_by, leads_to, reaches_itself, cycles_rule}
 use Rattle.asl_rules.proofs.basics.Tests.{no, both, and_true, either, or_first, or_second}
 use Rattle.asl_rules.proofs.verdict.Distinct.{In}
 use Rattle.asl_rules.proofs.verdict.Settling.{settled}
@@ -92,4 +92,6 @@ module _ (ds : List Decl) where
 -- ---- the rule
 
 pub cycles_pass : (all : List Decl) (d : Decl) (ds : List Decl) → reaches_itself all d ≡ false → cycles_rule all (d ∷ ds) ≡ cycles_rule all ds
-cycles_pass all d ds h = ap (λ b. need (not b) T03 (name_in d).span >> cycles_rule all ds) h
+cycles_pass all (dc.Type d) ds h = ap (λ b. need (not b) T03 d.name.span >> cycles_rule all ds) h
+cycles_pass all (dc.Storage d) ds h = ap (λ b. need (not b) T03 d.name.span >> cycles_rule all ds) h
+cycles_pass all (dc.Func f) ds h = refl

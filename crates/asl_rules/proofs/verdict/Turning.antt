@@ -1,16 +1,16 @@
 -- Turn by turn: what holds of each declaration while it waits, and of each that is judged where it holds of all so far, holds of each at
 -- the end.
-use Rattle.std.proofs.Common.{◌≡◌, ℕ, zero, suc, ◌+◌, ◌⊎◌, inl, inr, Bool, true, false, cond, ◌&&◌, ◌||◌, not, List, [], ◌∷◌, ◌++◌}
+use Rattle.std.proofs.Common.{◌≡◌, ℕ, zero, suc, ◌+◌, ◌⊎◌, inl, inr, Bool, true, false, cond, ◌&&◌, ◌||◌, not, List, [], ◌∷◌}
 use Rattle.std.proofs.Common.{Option, Some, None, refl, sym, ap, ◌∙◌, subst, arith}
 use Rattle.asl_syn.specs.declared.tree.Decl.{Decl}
 use Rattle.asl_rules.specs.Tests.{Tests}
-use Rattle.asl_rules.specs.declarations.Turns.{Judged, Waiting, Fine, Faulty, is_waiting, is_fine, SoFar, all_usable, is_ready}
-use Rattle.asl_rules.specs.declarations.Turns.{no_subprogram}
-use Rattle.asl_rules.specs.declarations.Turns.{subprogram_apart, any_subprogram, first_ready, or_else_place, next_turn, decl_judged}
-use Rattle.asl_rules.specs.declarations.Turns.{judged_at, one_turn, turns, all_waiting}
-use Rattle.asl_rules.specs.declarations.Uses.{is_judged_first}
+use Rattle.asl_rules.specs.declarations.Scopes.{Entry}
+use Rattle.asl_rules.specs.declarations.Turns.{Judged, Waiting, Fine, Faulty, is_waiting, is_fine, SoFar, names_so_far, takes_turn}
+use Rattle.asl_rules.specs.declarations.Turns.{all_fine, is_ready, first_ready, next_turn, decl_judged, judged_at, one_turn, turns}
+use Rattle.asl_rules.specs.declarations.Turns.{all_waiting}
+use Rattle.asl_rules.specs.declarations.Uses.{uses_one_of}
 use Rattle.asl_rules.specs.private.Judgements.{EachJudged, CameOf}
-use Rattle.asl_rules.proofs.basics.Tests.{no, both, some_same, none_some}
+use Rattle.asl_rules.proofs.basics.Tests.{no, both, and_true, some_same, none_some}
 use Rattle.asl_rules.proofs.verdict.Distinct.{In}
 
 -- ---- declarations with what came of them
@@ -54,52 +54,48 @@ each_waiting P w (d ∷ ds) = (w d, each_waiting P w ds)
 
 pub waits : (j : Judged) → is_waiting j ≡ true → j ≡ Waiting
 waits Waiting h = refl
-waits (Fine b) h = no h
+waits (Fine es) h = no h
 waits (Faulty f) h = no h
 
 -- ---- one turn
 
 -- whose turn it is
 pub record Turn (all : List Decl) (so_far : SoFar) (d : Decl) : Type 0 where
-  pub first : is_judged_first all d ≡ true
-  pub ready : all_usable d [] all so_far ≡ true
+  pub takes : takes_turn d ≡ true
+  pub ready : all_fine d all so_far ≡ true
 
 pub ready_turn : (all : List Decl) (so_far : SoFar) (d : Decl) (j : Judged) → is_ready all so_far d j ≡ true →
     (j ≡ Waiting) × Turn all so_far d
 ready_turn all so_far d j h =
-    let p = both (is_waiting j) (is_judged_first all d && all_usable d [] all so_far) h in
-    let q = both (is_judged_first all d) (all_usable d [] all so_far) p.1 in
-    (waits j p.0, record { first = q.0; ready = q.1 })
+    let p = both (takes_turn d) (is_waiting j && all_fine d all so_far) h in
+    let q = both (is_waiting j) (all_fine d all so_far) p.1 in
+    (waits j q.0, record { takes = p.0; ready = q.1 })
 
 module _ (t : Tests) (all : List Decl) (so_far : SoFar) where
+  abbrev names : List Entry
+  names = names_so_far all so_far
+
   -- the one whose turn it is is judged, and nothing else changes
   abbrev pub JudgesOne : List Decl → SoFar → SoFar → Type 0
   JudgesOne [] js ks = ⊥
   JudgesOne (d ∷ ds) [] ks = ⊥
   JudgesOne (d ∷ ds) (j ∷ js) [] = ⊥
   JudgesOne (d ∷ ds) (j ∷ js) (k ∷ ks) =
-      ((is_ready all so_far d j ≡ true) × (decl_judged t all so_far d ≡ k) × (js ≡ ks)) ⊎ ((j ≡ k) × JudgesOne ds js ks)
+      ((is_ready all so_far d j ≡ true) × (decl_judged t d names ≡ k) × (js ≡ ks)) ⊎ ((j ≡ k) × JudgesOne ds js ks)
 
   record Judging (from n : ℕ) (ds : List Decl) (js : SoFar) : Type 0 where
     pub place : ℕ
     pub is : n ≡ from + place
-    pub one : JudgesOne ds js (judged_at t all so_far place ds js)
+    pub one : JudgesOne ds js (judged_at t place ds js names)
 
-  judging : (sort : List Decl → Decl → Bool) (from n : ℕ) (before ds : List Decl) (js : SoFar) →
-      first_ready sort all so_far from before ds js ≡ Some n → Judging from n ds js
-  judging sort from n before [] js h = none_some n h
-  judging sort from n before (d ∷ ds) [] h = none_some n h
-  judging sort from n before (d ∷ ds) (j ∷ js) h =
-      by (sort before d && is_ready all so_far d j) refl h (judging sort (suc from) n (before ++ d ∷ []) ds js)
+  judging : (from n : ℕ) (ds : List Decl) (js : SoFar) → first_ready all so_far from ds js ≡ Some n → Judging from n ds js
+  judging from n [] js h = none_some n h
+  judging from n (d ∷ ds) [] h = none_some n h
+  judging from n (d ∷ ds) (j ∷ js) h = by (is_ready all so_far d j) refl h (judging (suc from) n ds js)
     where
-      by : (b : Bool) → (sort before d && is_ready all so_far d j) ≡ b →
-          cond b (Some from) (first_ready sort all so_far (suc from) (before ++ d ∷ []) ds js) ≡ Some n →
-          (first_ready sort all so_far (suc from) (before ++ d ∷ []) ds js ≡ Some n → Judging (suc from) n ds js) →
-          Judging from n (d ∷ ds) (j ∷ js)
-      by true q h next =
-          let r : from ≡ n = some_same from n h in
-          let ready = (both (sort before d) (is_ready all so_far d j) q).1 in
-          record { place = 0; is = omega (arith, r); one = inl (ready, refl, refl) }
+      by : (b : Bool) → is_ready all so_far d j ≡ b → cond b (Some from) (first_ready all so_far (suc from) ds js) ≡ Some n →
+          (first_ready all so_far (suc from) ds js ≡ Some n → Judging (suc from) n ds js) → Judging from n (d ∷ ds) (j ∷ js)
+      by true q h next = let r : from ≡ n = some_same from n h in record { place = 0; is = omega (arith, r); one = inl (q, refl, refl) }
       by false q h next =
           let r = next h in
           let i : n ≡ suc from + r.place = r.is in
@@ -109,37 +105,13 @@ module _ (t : Tests) (all : List Decl) (so_far : SoFar) where
 abbrev pub OneTurn : Tests → List Decl → SoFar → SoFar → Type 0
 OneTurn t ds js ks = JudgesOne t ds js ds js ks
 
-either_place : (n : ℕ) (o p : Option ℕ) → or_else_place o p ≡ Some n → (o ≡ Some n) ⊎ (p ≡ Some n)
-either_place n None p k = inr k
-either_place n (Some m) p k = inl k
-
-pub turned : (t : Tests) (ds : List Decl) (js : SoFar) (n : ℕ) → next_turn t ds js ≡ Some n →
-    OneTurn t ds js (judged_at t ds js n ds js)
-turned t ds js n h = by (either_place n first (or_else_place second third) h)
-  where
-    at : (sort : List Decl → Decl → Bool) → first_ready sort ds js 0 [] ds js ≡ Some n → OneTurn t ds js (judged_at t ds js n ds js)
-    at sort k =
-        let r = judging t ds js sort 0 n [] ds js k in
-        let i : n ≡ 0 + r.place = r.is in
-        let q : r.place ≡ n = omega (arith, i) in
-        subst (λ m. OneTurn t ds js (judged_at t ds js m ds js)) q r.one
-
-    first : Option ℕ
-    first = first_ready no_subprogram ds js 0 [] ds js
-
-    second : Option ℕ
-    second = first_ready (subprogram_apart t ds js) ds js 0 [] ds js
-
-    third : Option ℕ
-    third = first_ready any_subprogram ds js 0 [] ds js
-
-    late : (second ≡ Some n) ⊎ (third ≡ Some n) → OneTurn t ds js (judged_at t ds js n ds js)
-    late (inl k) = at (subprogram_apart t ds js) k
-    late (inr k) = at any_subprogram k
-
-    by : (first ≡ Some n) ⊎ (or_else_place second third ≡ Some n) → OneTurn t ds js (judged_at t ds js n ds js)
-    by (inl k) = at no_subprogram k
-    by (inr k) = late (either_place n second third k)
+pub turned : (t : Tests) (ds : List Decl) (js : SoFar) (n : ℕ) → next_turn ds js ≡ Some n →
+    OneTurn t ds js (judged_at t n ds js (names_so_far ds js))
+turned t ds js n h =
+    let r = judging t ds js 0 n ds js h in
+    let i : n ≡ 0 + r.place = r.is in
+    let q : r.place ≡ n = omega (arith, i) in
+    subst (λ m. OneTurn t ds js (judged_at t m ds js (names_so_far ds js))) q r.one
 
 -- ---- later states
 
@@ -183,23 +155,36 @@ pub fine_stays : (j k : Judged) → is_fine j ≡ true → Stays j k → j ≡ k
 fine_stays j k h (inl e) = no (sym (ap is_fine e) ∙ h)
 fine_stays j k h (inr e) = e
 
+pub all_fine_later : (d : Decl) (es : List Decl) (js ks : SoFar) → Later js ks → all_fine d es js ≡ true → all_fine d es ks ≡ true
+all_fine_later d [] js ks l h = refl
+all_fine_later d (e ∷ es) [] [] l h = h
+all_fine_later d (e ∷ es) [] (k ∷ ks) l h = absurd l
+all_fine_later d (e ∷ es) (j ∷ js) [] l h = absurd l
+all_fine_later d (e ∷ es) (j ∷ js) (k ∷ ks) l h =
+    let p = both (not (uses_one_of d e) || is_fine j) (all_fine d es js) h in
+    and_true (not (uses_one_of d e) || is_fine k) (all_fine d es ks) (by (not (uses_one_of d e)) p.0) (all_fine_later d es js ks l.1 p.1)
+  where
+    by : (b : Bool) → (b || is_fine j) ≡ true → (b || is_fine k) ≡ true
+    by true q = refl
+    by false q = sym (ap is_fine (fine_stays j k q l.0)) ∙ q
+
 -- ---- all turns
 
 -- what each turn keeps
 pub turns_keep : (t : Tests) (ds : List Decl) (Q : SoFar → Type 0) → ((js ks : SoFar) → OneTurn t ds js ks → Q js → Q ks) →
     (n : ℕ) (js : SoFar) → Q js → Q (turns t n ds js)
 turns_keep t ds Q step zero js q = q
-turns_keep t ds Q step (suc n) js q = by (next_turn t ds js) refl (turns_keep t ds Q step n)
+turns_keep t ds Q step (suc n) js q = by (next_turn ds js) refl (turns_keep t ds Q step n)
   where
-    by : (o : Option ℕ) → next_turn t ds js ≡ o → ((ks : SoFar) → Q ks → Q (turns t n ds ks)) → Q (one_turn t ds js (turns t n ds) o)
+    by : (o : Option ℕ) → next_turn ds js ≡ o → ((ks : SoFar) → Q ks → Q (turns t n ds ks)) → Q (one_turn t ds js (turns t n ds) o)
     by None h next = q
-    by (Some m) h next = let ks = judged_at t ds js m ds js in next ks (step js ks (turned t ds js m h) q)
+    by (Some m) h next = let ks = judged_at t m ds js (names_so_far ds js) in next ks (step js ks (turned t ds js m h) q)
 
 -- what holds of declarations may depend on the state of the turns: it stays with what is judged, and holds of what is judged next
 module _ (t : Tests) (ds : List Decl) (P : SoFar → Decl → Judged → Type 0)
     (stays : (js ks : SoFar) → OneTurn t ds js ks → EachJudged (P js) ds js → (d : Decl) (j : Judged) → P js d j → P ks d j)
     (judges : (js ks : SoFar) → OneTurn t ds js ks → EachJudged (P js) ds js → (d : Decl) → In d ds → Turn ds js d →
-    P ks d (decl_judged t ds js d)) where
+    P ks d (decl_judged t d (names_so_far ds js))) where
   one_more : (js ks : SoFar) → OneTurn t ds js ks → EachJudged (P js) ds js → (es : List Decl) (ls ms : SoFar) →
       ((d : Decl) → In d es → In d ds) → JudgesOne t ds js es ls ms → EachJudged (P js) es ls → EachJudged (P ks) es ms
   one_more js ks o all [] ls ms i h a = absurd h
@@ -221,7 +206,7 @@ module _ (t : Tests) (ds : List Decl) (P : SoFar → Decl → Judged → Type 0)
   turns_hold_in n js a = turns_keep t ds (λ ks. EachJudged (P ks) ds ks) turn_holds_in n js a
 
 module _ (t : Tests) (ds : List Decl) (P : Decl → Judged → Type 0)
-    (judges : (js : SoFar) → EachJudged P ds js → (d : Decl) → In d ds → Turn ds js d → P d (decl_judged t ds js d)) where
+    (judges : (js : SoFar) → EachJudged P ds js → (d : Decl) → In d ds → Turn ds js d → P d (decl_judged t d (names_so_far ds js))) where
   pub turn_holds : (js ks : SoFar) → OneTurn t ds js ks → EachJudged P ds js → EachJudged P ds ks
   turn_holds js ks o a = turn_holds_in t ds (λ ks. P) (λ js ks o b d j p. p) (λ js ks o b. judges js b) js ks o a
 

@@ -13,8 +13,6 @@ use Rattle.asl_syn.specs.declared.tree.Formal.{Formal}
 use Rattle.asl_syn.specs.declared.tree.Param.{Param as WrittenParam}
 use Rattle.asl_syn.specs.declared.tree.TypeDef.{TypeDef}
 use Rattle.asl_syn.specs.declared.tree.TypeDef.TheVariants as td
-use Rattle.asl_syn.specs.declared.tree.TypeDecl.{TypeDecl}
-use Rattle.asl_syn.specs.declared.tree.StorageDecl.{StorageDecl}
 use Rattle.asl_syn.specs.declared.tree.Decl.{Decl}
 use Rattle.asl_syn.specs.declared.tree.Decl.TheVariants as dc
 use Rattle.asl_syn.specs.declared.tree.Func.{Func}
@@ -36,11 +34,10 @@ use Rattle.asl_rules.specs.expressions.Typing.{Width}
 use Rattle.asl_rules.specs.values.Members.{has_name}
 use Rattle.asl_rules.specs.expressions.Exprs.{found, written}
 use Rattle.asl_rules.specs.statements.Acting.{Done, done, ended}
-use Rattle.asl_rules.specs.declarations.Declarations.{def_rule, supertype_rule, label_entries, type_decl_rule, storage_rule, storage_decl_rule, in_names}
-use Rattle.asl_rules.specs.declarations.Environments.{is_var}
-use Rattle.asl_rules.specs.declarations.Turns.{decls_so_far, scope_so_far, names_of_program}
+use Rattle.asl_rules.specs.declarations.Declarations.{def_rule, supertype_rule, label_entries, storage_rule, is_var, decl_rule, in_names}
+use Rattle.asl_rules.specs.declarations.Turns.{names_of_program}
 use Rattle.asl_rules.specs.statements.Locals.{Initialised, taken, itself, counted_as, initialised_as, declared, type_declared, part_declared, written_or, initialised, binders_free, bound_parts, bound_in, bound, bind_rule, names_rule, vars_rule}
-use Rattle.asl_rules.specs.declarations.Signatures.{Head, params_free, formals_free, param_written, param_entry, type_or_itself, params_rule, formals_rule, result_rule, limit_typed, params_are_integers, limit_rule, with_formals, signature_rule}
+use Rattle.asl_rules.specs.declarations.Programs.{Head, params_free, formals_free, param_written, param_entry, type_or_itself, params_rule, formals_rule, result_rule, limit_typed, params_are_integers, limit_rule, with_formals, signature_rule}
 use Rattle.asl_rules.specs.private.Worth.{WellCounted}
 use Rattle.asl_rules.proofs.basics.Inversions.{ok_ok, bind_ok, then_ok, need_ok, found_ok}
 use Rattle.asl_rules.proofs.basics.Tests.{no, none_some, some_same, both}
@@ -85,25 +82,22 @@ labels_uncounted (td.Labels span is) name T = each is
 labels_uncounted (td.Record span fs) name T = tt
 labels_uncounted (td.Exception span fs) name T = tt
 
-type_uncounted : (t : Tests) (d : TypeDecl) (G : Scope) (es : List Entry) → type_decl_rule t d G ≡ Ok es → AllUncounted es
-type_uncounted t d G es h =
+decl_uncounted : (t : Tests) (d : Decl) (G : Scope) (es : List Entry) → decl_rule t d G ≡ Ok es → AllUncounted es
+decl_uncounted t (dc.Type d) G es h =
     let u = bind_ok (def_rule t d.name.text d.def G) _ es h in
     let v = bind_ok (supertype_rule t d.supertype u.value G) _ es u.then in
     subst (λ z. AllUncounted z) (ok_ok _ es v.then) (tt, labels_uncounted d.def d.name.text _)
-
-storage_uncounted : (t : Tests) (ds : List Decl) (d : StorageDecl) (G : Scope) (es : List Entry) → storage_decl_rule t ds d G ≡ Ok es →
-    AllUncounted es
-storage_uncounted t ds d G es h =
-    let u = bind_ok (storage_rule t ds d (is_var d.kind) d.ty d.init G) _ es h in
+decl_uncounted t (dc.Storage d) G es h =
+    let u = bind_ok (storage_rule t d (is_var d.kind) d.ty d.init G) _ es h in
     subst (λ z. AllUncounted z) (ok_ok _ es u.then) (refl, tt)
+decl_uncounted t (dc.Func f) G es h = subst (λ z. AllUncounted z) (ok_ok (subprogram f.name.text ∷ []) es h) (tt, tt)
 
 -- the names that are visible in all bodies
 pub names_counted : (t : Tests) (ds : List Decl) → WellCounted (names_of_program t ds)
 names_counted t ds =
     well_uncounted (names_of_program t ds)
     (visible_have (λ e. IsUncounted e.standing) (λ n. tt) t ds (λ d i. refl)
-    (λ js a d i es h. type_uncounted t d (scope_so_far ds js) es h)
-    (λ js a d i es h. storage_uncounted t (decls_so_far ds js) d (scope_so_far ds js) es h) (length ds))
+    (λ d i names a es h. decl_uncounted t d (in_names names) es h) (length ds))
 
 -- ---- names that aren't visible yet
 

@@ -1,4 +1,4 @@
--- What an initialiser outside bodies and a `recurselimit` may not hold: the name of a global `var`, and the latter no call either.
+-- What an initialiser outside bodies and a `recurselimit` may not hold: a call, and the name of a global `var`.
 use Rattle.std.specs.Prelude.{Bool, false, ◌&&◌, if◌then◌else◌, List, Option, Some, None}
 use Rattle.asl_syn.specs.declared.token.Span.{Span}
 use Rattle.asl_syn.specs.declared.tree.Expr.{Expr}
@@ -12,22 +12,12 @@ is_global_var (Some s) = s.is_global && s.is_mutable
 abbrev pub at_var : Span → Option Storage → Option Span
 at_var span o = if is_global_var o then Some span else None
 
--- the name of a global `var`: where it stands
-abbrev pub var_at : List Entry → Use → Option Span
-var_at names (of_value span name) = at_var span (storage_of name names)
-var_at names (of_subprogram span name) = None
-var_at names (of_type name) = None
-
--- the first of them in an initialiser
-abbrev pub barred : Expr → List Entry → Option Span
-barred e names = first_said (var_at names) (expr_uses e)
-
 -- a call, or the name of a global `var`: where it stands
-abbrev pub limit_barred_at : List Entry → Use → Option Span
-limit_barred_at names (of_value span name) = at_var span (storage_of name names)
-limit_barred_at names (of_subprogram span name) = Some span
-limit_barred_at names (of_type name) = None
+abbrev pub barred_at : List Entry → Use → Option Span
+barred_at names (of_value span name) = at_var span (storage_of name names)
+barred_at names (of_subprogram span name) = Some span
+barred_at names (of_type name) = None
 
--- the first of them in a `recurselimit`
-abbrev pub limit_barred : Expr → List Entry → Option Span
-limit_barred e names = first_said (limit_barred_at names) (expr_uses e)
+-- the first of them in an expression
+abbrev pub barred : Expr → List Entry → Option Span
+barred e names = first_said (barred_at names) (expr_uses e)

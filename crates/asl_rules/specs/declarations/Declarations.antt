@@ -1,4 +1,4 @@
--- Declarations of types and of storage outside bodies, each where these names are visible.
+-- Declarations of types and of storage, in any order: each is judged where all that it uses is well formed.
 use Rattle.std.specs.Prelude.{ℕ, Bool, true, false, ◌&&◌, not, List, [], ◌∷◌, ◌++◌, map, Option, Some, None, Result, Ok, Err}
 use Rattle.asl_syn.specs.declared.token.Span.{Span}
 use Rattle.asl_syn.specs.declared.code.Fault.{Fault}
@@ -27,10 +27,8 @@ use Rattle.asl_rules.specs.declarations.Scopes.{Scope, Entry, global, subprogram
 use Rattle.asl_rules.specs.types.Widths.{bounded}
 use Rattle.asl_rules.specs.values.Members.{has_name}
 use Rattle.asl_rules.specs.expressions.Exprs.{typed, written, found, found_type}
+use Rattle.asl_rules.specs.runs.Plans.{Faulted, Stuck, Pure, Good, Bad}
 use Rattle.asl_rules.specs.declarations.Constants.{constant}
-use Rattle.asl_rules.specs.declarations.Environments.{Environment, is_var}
-use Rattle.asl_rules.specs.declarations.ImpureCalls.{impure_call}
-use Rattle.asl_rules.specs.declarations.InitialValues.{evaluated, value_before}
 use Rattle.asl_rules.specs.declarations.Barred.{barred}
 
 -- what a declaration is judged in
@@ -94,6 +92,12 @@ type_decl_rule t d G =
 
 -- ---- storage
 
+-- a constant that can't be evaluated: T04 at the faulting node, with the code of the evaluation
+abbrev pub evaluated : Pure Value → Result Value Fault
+evaluated (Good x) = Ok x
+evaluated (Bad (Faulted code span)) = Err (record { code = T04; inner = Some code; span = span })
+evaluated (Bad (Stuck mistake span)) = fault T04 span
+
 -- the type and the initial value of global storage
 pub record Initial : Type 0 where
   pub ty : Ty
@@ -107,7 +111,7 @@ abbrev pub unannotated : Bool → Ty → Ty
 unannotated true T = widened T
 unannotated false T = T
 
--- a constant, where a `recurselimit` stands
+-- a constant, and what is evaluated where an initialiser stands
 abbrev pub known : Tests → Expr → Scope → Result Value Fault
 known t e G = evaluated (constant t.limit e G.names)
 
@@ -115,26 +119,31 @@ known t e G = evaluated (constant t.limit e G.names)
 abbrev pub first_in : Tests → Span → Ty → Result Initial Fault
 first_in t at T = evaluated (first_value t.limit at (closed T)) >>= λ x. Ok (with_type T x)
 
--- what an initialiser is evaluated over: these declarations and names
-abbrev pub over : Tests → List Decl → Scope → Environment
-over t ds G = record { decls = ds; names = G.names; limit = t.limit }
-
--- an initialiser holds no global `var`, before all else; then it has a type, fits, calls only what is pure, and is evaluated
-abbrev pub storage_rule : Tests → List Decl → StorageDecl → Bool → Option TypeExpr → Option Expr → Scope → Result Initial Fault
-storage_rule t ds d is_var None None G = fault S03 d.span
-storage_rule t ds d is_var (Some ty) None G = written t ty true G >>= λ W. first_in t (found_type t ty).span W.ty
-storage_rule t ds d is_var None (Some e) G =
+-- an initialiser holds no call and no global `var`, before all else; then it has a type, fits, and is evaluated
+abbrev pub storage_rule : Tests → StorageDecl → Bool → Option TypeExpr → Option Expr → Scope → Result Initial Fault
+storage_rule t d is_var None None G = fault S03 d.span
+storage_rule t d is_var (Some ty) None G = written t ty true G >>= λ W. first_in t (found_type t ty).span W.ty
+storage_rule t d is_var None (Some e) G =
     none_at T04 (barred e G.names) >>
-    typed t e G >>= λ S.
-    none_at T04 (impure_call G.subs S.tree) >>
-    value_before (over t ds G) e >>= λ x. Ok (with_type (unannotated is_var S.ty) x)
-storage_rule t ds d is_var (Some ty) (Some e) G =
+    typed t e G >>= λ S. known t e G >>= λ x. Ok (with_type (unannotated is_var S.ty) x)
+storage_rule t d is_var (Some ty) (Some e) G =
     none_at T04 (barred e G.names) >>
     written t ty true G >>= λ W. typed t e G >>= λ S.
     fitted (misfit t S.ty W.ty) (found t e).span >>
-    none_at T04 (impure_call G.subs S.tree) >>
-    value_before (over t ds G) e >>= λ x. Ok (with_type W.ty (viewed (closed W.ty) x))
+    known t e G >>= λ x. Ok (with_type W.ty (viewed (closed W.ty) x))
 
-abbrev pub storage_decl_rule : Tests → List Decl → StorageDecl → Scope → Result (List Entry) Fault
-storage_decl_rule t ds d G =
-    storage_rule t ds d (is_var d.kind) d.ty d.init G >>= λ s. Ok (global d.name.text s.ty (is_var d.kind) s.value ∷ [])
+abbrev pub is_var : StorageKind → Bool
+is_var storage.Constant = false
+is_var storage.Let = false
+is_var storage.Var = true
+
+abbrev pub storage_decl_rule : Tests → StorageDecl → Scope → Result (List Entry) Fault
+storage_decl_rule t d G = storage_rule t d (is_var d.kind) d.ty d.init G >>= λ s. Ok (global d.name.text s.ty (is_var d.kind) s.value ∷ [])
+
+-- ---- both
+
+-- what a declaration brings into the scope of all bodies
+abbrev pub decl_rule : Tests → Decl → Scope → Result (List Entry) Fault
+decl_rule t (dc.Type d) G = type_decl_rule t d G
+decl_rule t (dc.Storage d) G = storage_decl_rule t d G
+decl_rule t (dc.Func f) G = Ok (subprogram f.name.text ∷ [])

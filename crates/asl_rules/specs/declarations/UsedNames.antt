@@ -15,6 +15,8 @@ use Rattle.asl_syn.specs.declared.tree.Bitfield.TheFolds.{fold-Bitfield, fold-Co
 use Rattle.asl_syn.specs.declared.tree.Formal.{Formal}
 use Rattle.asl_syn.specs.declared.tree.TypeDef.{TypeDef}
 use Rattle.asl_syn.specs.declared.tree.TypeDef.TheVariants as td
+use Rattle.asl_syn.specs.declared.tree.Decl.{Decl}
+use Rattle.asl_syn.specs.declared.tree.Decl.TheVariants as dc
 
 -- a use of a name: of storage or of a label, of a subprogram, or of a type
 pub data Use : Type 0 where
@@ -151,3 +153,9 @@ def_uses (td.Exception span fs) = formal_uses fs
 abbrev pub supertype_uses : Option Ident → Uses
 supertype_uses None = []
 supertype_uses (Some i) = of_type i.text ∷ []
+
+-- of a type or of storage; a subprogram stands in no cycle, so what it uses isn't asked for
+abbrev pub decl_uses : Decl → Uses
+decl_uses (dc.Type d) = def_uses d.def ++ supertype_uses d.supertype
+decl_uses (dc.Storage d) = maybe_type_uses d.ty ++ maybe_expr_uses d.init
+decl_uses (dc.Func f) = []

@@ -1,37 +1,20 @@
--- Which declarations use which, which subprograms an initialiser reaches, and declarations that reach themselves. An initialiser uses the subprograms that it calls,
--- with all others of the name; a subprogram uses all that its signature and its body name; a written type uses no subprogram, since a call has no place in one.
-use Rattle.std.specs.Prelude.{ℕ, zero, suc, Bool, true, false, ◌&&◌, ◌||◌, not, List, [], ◌∷◌, ◌++◌, length, map, Result, Ok}
+-- The names that declarations use, and declarations that reach themselves through them.
+use Rattle.std.specs.Prelude.{ℕ, zero, suc, Bool, false, ◌&&◌, ◌||◌, not, List, [], ◌∷◌, length, map, Result, Ok}
 use Rattle.std.specs.Str.{bytes_eq}
 use Rattle.asl_syn.specs.declared.code.Fault.{Fault}
 use Rattle.asl_syn.specs.declared.code.StaticCode.TheVariants.{T03}
-use Rattle.asl_syn.specs.declared.tree.Ident.{Ident}
-use Rattle.asl_syn.specs.declared.tree.Func.{Func}
 use Rattle.asl_syn.specs.declared.tree.Decl.{Decl}
 use Rattle.asl_syn.specs.declared.tree.Decl.TheVariants as dc
 use Rattle.asl_rules.specs.Faults.{◌>>◌, need}
 use Rattle.asl_rules.specs.declarations.Names.{Declared, declared_by}
-use Rattle.asl_rules.specs.declarations.UsedNames.{Use, Uses, of_value, of_subprogram, of_type, name_of, def_uses, supertype_uses, maybe_type_uses, maybe_expr_uses}
-use Rattle.asl_rules.specs.declarations.StmtUses.{head_uses, body_uses}
+use Rattle.asl_rules.specs.declarations.UsedNames.{name_of, decl_uses}
 
--- ---- what a declaration uses
+abbrev pub Used : Type 0
+Used = List (List ℕ)
 
-abbrev pub is_call : Use → Bool
-is_call (of_value span name) = false
-is_call (of_subprogram span name) = true
-is_call (of_type name) = false
-
-abbrev pub without_calls : Uses → Uses
-without_calls [] = []
-without_calls (of_value span name ∷ us) = of_value span name ∷ without_calls us
-without_calls (of_subprogram span name ∷ us) = without_calls us
-without_calls (of_type name ∷ us) = of_type name ∷ without_calls us
-
-abbrev pub uses : Decl → Uses
-uses (dc.Type d) = without_calls (def_uses d.def ++ supertype_uses d.supertype)
-uses (dc.Storage d) = without_calls (maybe_type_uses d.ty) ++ maybe_expr_uses d.init
-uses (dc.Func f) = head_uses f ++ body_uses f
-
--- ---- which use which
+-- the names that a declaration uses
+abbrev pub uses : Decl → Used
+uses d = map name_of (decl_uses d)
 
 abbrev pub is_declared : List ℕ → List Declared → Bool
 is_declared name [] = false
@@ -41,26 +24,13 @@ is_declared name (d ∷ ds) = (bytes_eq d.name.text name && not d.is_subprogram)
 abbrev pub declares : Decl → List ℕ → Bool
 declares d name = is_declared name (declared_by d)
 
-abbrev pub is_func : Decl → Bool
-is_func (dc.Type d) = false
-is_func (dc.Storage d) = false
-is_func (dc.Func f) = true
+abbrev pub any_declared : Decl → Used → Bool
+any_declared d [] = false
+any_declared d (u ∷ us) = declares d u || any_declared d us
 
--- a use, in a subprogram or elsewhere, names this declaration
-abbrev pub names_it : Bool → Decl → Use → Bool
-names_it in_body (dc.Type d) u = declares (dc.Type d) (name_of u)
-names_it in_body (dc.Storage d) u = declares (dc.Storage d) (name_of u)
-names_it in_body (dc.Func f) u = (in_body || is_call u) && bytes_eq f.name.text (name_of u)
-
-abbrev pub any_names : Bool → Decl → Uses → Bool
-any_names in_body e [] = false
-any_names in_body e (u ∷ us) = names_it in_body e u || any_names in_body e us
-
--- the first declaration uses the second
+-- the first declaration uses a name of the second
 abbrev pub uses_one_of : Decl → Decl → Bool
-uses_one_of d e = any_names (is_func d) e (uses d)
-
--- ---- what is reached
+uses_one_of d e = any_declared e (uses d)
 
 -- one of these that the first uses leads on
 abbrev pub leads_by : (Decl → Bool) → Decl → List Decl → Bool
@@ -72,30 +42,12 @@ abbrev pub leads_to : ℕ → List Decl → Decl → Decl → Bool
 leads_to zero ds d e = uses_one_of d e
 leads_to (suc n) ds d e = uses_one_of d e || leads_by (λ m. leads_to n ds m e) d ds
 
-abbrev pub reaches : List Decl → Decl → Decl → Bool
-reaches ds d e = leads_to (length ds) ds d e
-
--- one of these is a type or storage, and reaches the declaration
-abbrev pub any_reaches : List Decl → List Decl → Decl → Bool
-any_reaches all [] e = false
-any_reaches all (d ∷ ds) e = (not (is_func d) && reaches all d e) || any_reaches all ds e
-
--- types and storage, and the subprograms that these reach, are judged before all other bodies
-abbrev pub is_judged_first : List Decl → Decl → Bool
-is_judged_first ds (dc.Type d) = true
-is_judged_first ds (dc.Storage d) = true
-is_judged_first ds (dc.Func f) = any_reaches ds ds (dc.Func f)
-
 abbrev pub reaches_itself : List Decl → Decl → Bool
-reaches_itself ds d = is_judged_first ds d && reaches ds d d
+reaches_itself ds d = leads_to (length ds) ds d d
 
--- the name that a fault of a declaration stands at, where it is a fault of the whole
-abbrev pub name_in : Decl → Ident
-name_in (dc.Type d) = d.name
-name_in (dc.Storage d) = d.name
-name_in (dc.Func f) = f.name
-
--- T03 at the first name of a type, of storage, or of a subprogram that is reached, which reaches itself
+-- T03 at the first name of a type or of storage that reaches itself
 abbrev pub cycles_rule : List Decl → List Decl → Result (Unit {0}) Fault
 cycles_rule all [] = Ok tt
-cycles_rule all (d ∷ ds) = need (not (reaches_itself all d)) T03 (name_in d).span >> cycles_rule all ds
+cycles_rule all (dc.Type d ∷ ds) = need (not (reaches_itself all (dc.Type d))) T03 d.name.span >> cycles_rule all ds
+cycles_rule all (dc.Storage d ∷ ds) = need (not (reaches_itself all (dc.Storage d))) T03 d.name.span >> cycles_rule all ds
+cycles_rule all (dc.Func f ∷ ds) = cycles_rule all ds

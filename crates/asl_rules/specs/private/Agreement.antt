@@ -1,7 +1,7 @@
 -- States that agree with scopes at an assignment of integers to the atoms, which is fixed for a frame: each name that stands for storage has a value there
 -- that belongs to its type, and where it counts in widths, its integer; each caller's frame holds the names of some scope at an assignment of its own; and
--- what is being handled are exceptions. The names outside bodies have an assignment of their own, which is fixed for a run.
-use Rattle.std.specs.Prelude.{◌≡◌, ◌⊎◌, ℕ, zero, suc, ◌<◌, pos, true, false, List, [], ◌∷◌, ◌++◌, Option, Some, None}
+-- what is being handled are exceptions.
+use Rattle.std.specs.Prelude.{◌≡◌, ℕ, ◌<◌, pos, true, false, List, [], ◌∷◌, ◌++◌, Option, Some, None}
 use Rattle.asl_poly.specs.Poly.{IsPolynomial, HasWidth}
 use Rattle.asl_rules.specs.types.Types.{Ty, kind, exceptions}
 use Rattle.asl_rules.specs.types.Closed.{Assignment, type_with, width_at}
@@ -40,31 +40,31 @@ pub record Holds (declared : List ℕ → Option Ty) (a : Assignment) (name : Li
   pub known : IsKnown (known_value s) b.value
   pub counts : CountsAs a s.counted b.value
 
--- outside bodies nothing has atoms, so that any assignment does there, as this one
+-- outside bodies nothing has atoms
 abbrev pub no_atoms : Assignment
 no_atoms n = pos 0
 
-pub record HoldsGlobal (declared : List ℕ → Option Ty) (outer : Assignment) (name : List ℕ) (s : Storage) (b : Binding) : Type 0 where
-  pub holds : Holds declared outer name s b
+pub record HoldsGlobal (declared : List ℕ → Option Ty) (name : List ℕ) (s : Storage) (b : Binding) : Type 0 where
+  pub holds : Holds declared no_atoms name s b
   pub fixed : Fixed s.ty
   pub no_atom : s.counted ≡ None
 
 -- storage has the next binding, and other names none
-abbrev pub global_matches : (List ℕ → Option Ty) → Assignment → List ℕ → Standing → List Binding → (List Binding → Type 0) → Type 0
-global_matches declared outer name (Stored s) [] rest = ⊥
-global_matches declared outer name (Stored s) (b ∷ bs) rest = HoldsGlobal declared outer name s b × rest bs
-global_matches declared outer name Subprogram bs rest = rest bs
-global_matches declared outer name (TypeName T) bs rest = rest bs
-global_matches declared outer name (Label T x) bs rest = rest bs
+abbrev pub global_matches : (List ℕ → Option Ty) → List ℕ → Standing → List Binding → (List Binding → Type 0) → Type 0
+global_matches declared name (Stored s) [] rest = ⊥
+global_matches declared name (Stored s) (b ∷ bs) rest = HoldsGlobal declared name s b × rest bs
+global_matches declared name Subprogram bs rest = rest bs
+global_matches declared name (TypeName T) bs rest = rest bs
+global_matches declared name (Label T x) bs rest = rest bs
 
-abbrev pub AllMatch : (List ℕ → Option Ty) → Assignment → List Entry → List Binding → Type 0
-AllMatch declared outer [] [] = Unit {0}
-AllMatch declared outer [] (b ∷ bs) = ⊥
-AllMatch declared outer (e ∷ es) bs = global_matches declared outer e.name e.standing bs (AllMatch declared outer es)
+abbrev pub AllMatch : (List ℕ → Option Ty) → List Entry → List Binding → Type 0
+AllMatch declared [] [] = Unit {0}
+AllMatch declared [] (b ∷ bs) = ⊥
+AllMatch declared (e ∷ es) bs = global_matches declared e.name e.standing bs (AllMatch declared es)
 
 -- the globals hold the storage that is declared outside bodies, in the same order
-abbrev pub GlobalsMatch : List Entry → Assignment → List Binding → Type 0
-GlobalsMatch base outer bs = AllMatch (types_in base) outer base bs
+abbrev pub GlobalsMatch : List Entry → List Binding → Type 0
+GlobalsMatch base bs = AllMatch (types_in base) base bs
 
 abbrev pub local_matches : (List ℕ → Option Ty) → Assignment → List ℕ → Standing → Binding → Type 0
 local_matches declared a name (Stored s) b = Holds declared a name s b
@@ -98,55 +98,43 @@ AllFresh base (e ∷ es) = (standing_of e.name base ≡ None) × AllFresh base e
 -- ---- exceptions
 
 -- an exception that a program can throw belongs to a type of exceptions, which have no atoms
-pub record Raised (declared : List ℕ → Option Ty) (outer : Assignment) (x : Value) : Type 0 where
+pub record Raised (declared : List ℕ → Option Ty) (x : Value) : Type 0 where
   pub ty : Ty
   pub name : List ℕ
   pub well_formed : WellFormed declared ty
   pub kind_is : kind ty ≡ exceptions name
-  pub belongs : InType declared outer x ty
+  pub belongs : InType declared no_atoms x ty
 
-abbrev pub AllRaised : (List ℕ → Option Ty) → Assignment → List Value → Type 0
-AllRaised declared outer [] = Unit {0}
-AllRaised declared outer (x ∷ xs) = Raised declared outer x × AllRaised declared outer xs
+abbrev pub AllRaised : (List ℕ → Option Ty) → List Value → Type 0
+AllRaised declared [] = Unit {0}
+AllRaised declared (x ∷ xs) = Raised declared x × AllRaised declared xs
 
 -- ---- states
 
--- the atoms of names outside bodies are the odd numbers
-abbrev pub IsOuter : ℕ → Type 0
-IsOuter zero = ⊥
-IsOuter (suc zero) = Unit {0}
-IsOuter (suc (suc n)) = IsOuter n
-
--- two assignments give the atoms of names outside bodies the same integers
-abbrev pub SameOutside : Assignment → Assignment → Type 0
-SameOutside a b = (n : ℕ) → IsOuter n → a n ≡ b n
-
 -- a caller's frame holds local storage, at an assignment of its own
-pub record Waits (base : List Entry) (outer : Assignment) (f : Frame) : Type 0 where
+pub record Waits (base : List Entry) (f : Frame) : Type 0 where
   pub locals : List Entry
   pub present : Assignment
   pub fresh : AllFresh base locals
   pub plain : AllPlain locals
   pub frame : FrameMatches (types_in base) present locals f.names
-  pub handled : AllRaised (types_in base) outer f.handled
-  pub outside : SameOutside present outer
+  pub handled : AllRaised (types_in base) f.handled
 
-abbrev pub AllWait : List Entry → Assignment → List Frame → Type 0
-AllWait base outer [] = Unit {0}
-AllWait base outer (f ∷ fs) = Waits base outer f × AllWait base outer fs
+abbrev pub AllWait : List Entry → List Frame → Type 0
+AllWait base [] = Unit {0}
+AllWait base (f ∷ fs) = Waits base f × AllWait base fs
 
--- the state agrees with these visible names, of which the base stands outside bodies, at an assignment of its own
-pub record Agrees (base : List Entry) (outer : Assignment) (names : List Entry) (a : Assignment) (c : Core) : Type 0 where
+-- the state agrees with these visible names, of which the base stands outside bodies
+pub record Agrees (base names : List Entry) (a : Assignment) (c : Core) : Type 0 where
   pub locals : List Entry
   pub names_are : names ≡ base ++ locals
   pub fresh : AllFresh base locals
   pub plain : AllPlain locals
   pub frame : FrameMatches (types_in base) a locals c.frame
-  pub globals : GlobalsMatch base outer c.globals
-  pub handled : AllRaised (types_in base) outer c.handled
-  pub callers : AllWait base outer c.callers
-  pub outside : SameOutside a outer
+  pub globals : GlobalsMatch base c.globals
+  pub handled : AllRaised (types_in base) c.handled
+  pub callers : AllWait base c.callers
 
--- two assignments give the atoms of these names, and those of names outside bodies, the same integers
+-- two assignments give the atoms of these names the same integers
 abbrev pub SameOn : List Entry → Assignment → Assignment → Type 0
-SameOn names a b = (n : ℕ) → (n < next_atom names) ⊎ IsOuter n → a n ≡ b n
+SameOn names a b = (n : ℕ) → n < next_atom names → a n ≡ b n

@@ -18,7 +18,7 @@ use Rattle.asl_rules.specs.values.Vectors.{slices_of, bitfield_of, bitfields_of}
 use Rattle.asl_rules.specs.values.Matching.{is_matched}
 use Rattle.asl_rules.specs.types.Written.{Sized, filled, converted}
 use Rattle.asl_rules.specs.values.Library.{routine_value}
-use Rattle.asl_rules.specs.declarations.Environments.{origin}
+use Rattle.asl_rules.specs.declarations.Programs.{origin}
 use Rattle.asl_rules.specs.runs.Evaluation.{width_of_bits}
 use Rattle.asl_rules.specs.values.Structures.{parts}
 use Rattle.asl_rules.specs.values.Strings.{string_text}

@@ -41,8 +41,8 @@ use Rattle.asl_rules.specs.types.Types.{Ty, Kind, kind_eq}
 use Rattle.asl_rules.specs.types.Closed as cl
 use Rattle.asl_rules.specs.types.Closed.{Closed, ClosedParts, closed, parts_at}
 use Rattle.asl_rules.specs.declarations.Scopes.{Entry, Standing, Stored, Subprogram, TypeName, Label, Storage, standing_of, storage_of}
-use Rattle.asl_rules.specs.declarations.Environments as programs
-use Rattle.asl_rules.specs.declarations.Environments.{Environment, funcs_of, origin}
+use Rattle.asl_rules.specs.declarations.Declarations as programs
+use Rattle.asl_rules.specs.declarations.Programs.{Environment, funcs_of, origin}
 use Rattle.asl_rules.specs.statements.Locals.{is_var}
 use Rattle.asl_rules.specs.statements.Targets.{up_to}
 use Rattle.asl_rules.specs.runs.Limits.{most_activations}

@@ -7,7 +7,3 @@ most_turns = 1048576
 
 unfoldable pub most_activations : ℕ
 most_activations = 256
-
--- how many nodes may be entered and not left
-unfoldable pub most_open : ℕ
-most_open = 2000

@@ -1,15 +1,18 @@
 -- Runs of a program: calls from outside, one after another, over globals that stay.
 use Rattle.std.specs.Prelude.{◌≡◌, ℕ, ◌-◌, ◌<◌, List, Option}
-use Rattle.asl_rules.specs.declarations.Environments.{Environment}
+use Rattle.asl_rules.specs.declarations.Programs.{Environment}
 use Rattle.asl_rules.specs.runs.Told.{Begins}
 use Rattle.asl_rules.specs.values.Values.{Value}
 use Rattle.asl_rules.specs.runs.States.{Binding, Core, resting}
-use Rattle.asl_rules.specs.runs.Limits.{most_open}
 use Rattle.asl_rules.specs.runs.Plans.{Meter, Outcome, final, run, starting}
 use Rattle.asl_syn.specs.declared.tree.Expr.{Expr}
 use Rattle.asl_syn.specs.declared.tree.Stmt.{Stmt}
 use Rattle.asl_rules.specs.runs.Visits.{Visit, visits, trails}
 use Rattle.asl_rules.specs.runs.Evaluation.{nodes, meaning, call_of}
+
+-- how many nodes may be entered and not left
+unfoldable pub most_open : ℕ
+most_open = 2000
 
 -- a call of a subprogram with these globals, steps and text so far
 unfoldable pub run_of : Environment → ℕ → List Value → List Binding → Meter → Outcome Core (Option Value)

@@ -3,8 +3,7 @@
 use Rattle.std.specs.Prelude.{ℕ, zero, suc, ◌+◌, ◌/◌, ◌%◌, ◌==◌, Bool, false, ◌||◌, not, if◌then◌else◌, nat_lt, List, [], ◌∷◌, ◌++◌, Option, Some, None, codes}
 use Rattle.asl_rules.specs.declared.entry.Entry.{Entry}
 use Rattle.asl_rules.specs.declared.entry.Entry.TheVariants as entry
-use Rattle.asl_rules.specs.declarations.Environments.{Environment, origin}
-use Rattle.asl_rules.specs.declarations.Programs.{Entries}
+use Rattle.asl_rules.specs.declarations.Programs.{Environment, Entries, origin}
 use Rattle.asl_bits.specs.Lists.{bits_of}
 use Rattle.asl_rules.specs.values.Values.{Value, bits_with}
 use Rattle.asl_rules.specs.runs.States.{Binding, Core, resting}

@@ -1,5 +1,5 @@
 use Rattle.std.proofs.Common.{sym, ap, ◌∙◌}
-use Rattle.asl_rules.specs.declarations.Signatures.{types_in}
+use Rattle.asl_rules.specs.declarations.Programs.{types_in}
 use Rattle.asl_check.proofs.BodyTurns.{types_back}
 use Rattle.asl_check.proofs.bodies.formals_of.Goals as goal
 

@@ -1,5 +1,5 @@
 use Rattle.std.proofs.Common.{◌≡◌, ◌++◌, drop}
-use Rattle.asl_rules.specs.declarations.Signatures.{param_types}
+use Rattle.asl_rules.specs.declarations.Programs.{param_types}
 use Rattle.asl_check.proofs.bodies.param_types.Given as goal
 
 abbrev pub invariant-loop-p : goal.invariant-loop-p

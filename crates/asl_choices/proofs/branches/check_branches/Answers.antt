@@ -11,7 +11,7 @@ check_branch-requires g c κs = ((refl, tt), (c.requires.blocks, branch_inside c
 
 pub loop-b-preserved : goal.loop-b-preserved
 loop-b-preserved g c = record {
-  same = c.check_branch.ensures.kept ∙ c.loop-b.invariant.same;
+  same = c.in_ok-check_branch.ensures.kept ∙ c.loop-b.invariant.same;
   rest = λ q s.
       after_mapped (branch_step q (body_of c.args.names.now c.args.body.now)) (walk_branch q) c.args.others.now c.loop-b.b-index c.b-item.result (branches_of c.loop-b.so_far) (branches_of c.check_branch.new.so_far) _
       (omega (arith, c.loop-b-test.true)) c.b-item.is

@@ -11,7 +11,7 @@ check_alternative-requires g c κs = ((refl, tt), (c.requires.blocks, alternativ
 
 pub loop-a-preserved : goal.loop-a-preserved
 loop-a-preserved g c = record {
-  same = c.check_alternative.ensures.kept ∙ c.loop-a.invariant.same;
+  same = c.in_ok-check_alternative.ensures.kept ∙ c.loop-a.invariant.same;
   rest = λ q s.
       after_mapped (alternative_step q c.args.ty.now (body_of c.args.names.now c.args.body.now)) (walk_alternative q) c.args.alternatives.now c.loop-a.a-index c.a-item.result (alternatives_of c.loop-a.so_far) (alternatives_of c.check_alternative.new.so_far) _
       (omega (arith, c.loop-a-test.true)) c.a-item.is

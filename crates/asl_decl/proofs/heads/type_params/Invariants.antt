@@ -1,8 +1,7 @@
 use Rattle.std.proofs.Common.{◌≡◌, [], drop}
 use Rattle.asl_rules.specs.Tests.{Tests}
-use Rattle.asl_types.specs.private.Fronts.{IsFront}
 use Rattle.asl_types.specs.Suits.{Suits}
-use Rattle.asl_decl.specs.private.HeadTypes.{params_after}
+use Rattle.asl_decl.specs.private.HeadTypes.{params_after, IsFront}
 use Rattle.asl_decl.proofs.heads.type_params.Given as goal
 
 abbrev pub invariant-loop-p : goal.invariant-loop-p

@@ -1,6 +1,6 @@
 use Rattle.std.proofs.Common.{◌≡◌, drop}
 use Rattle.asl_rules.specs.Tests.{Tests}
-use Rattle.asl_rules.specs.declarations.Signatures.{params_are_integers}
+use Rattle.asl_rules.specs.declarations.Programs.{params_are_integers}
 use Rattle.asl_decl.proofs.limit.check_params.Given as goal
 
 abbrev pub invariant-loop-p : goal.invariant-loop-p

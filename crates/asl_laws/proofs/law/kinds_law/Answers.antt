@@ -1,6 +1,6 @@
 use Rattle.asl_laws.proofs.scopes.FormedScopes.{types_formed, keeps_formed}
 use Rattle.asl_laws.proofs.soundness.AgreeingTypes.{read_agree}
-use Rattle.asl_laws.proofs.soundness.ProgramSound.{read_declared}
+use Rattle.asl_laws.proofs.soundness.Soundness.{read_declared}
 use Rattle.asl_laws.proofs.law.kinds_law.Goals as goal
 
 pub returns-clause-declared : goal.returns-clause-declared

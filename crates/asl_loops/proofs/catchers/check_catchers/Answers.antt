@@ -11,7 +11,7 @@ check_catcher-requires g c κs = ((refl, tt), (c.requires.blocks, catcher_inside
 
 pub loop-c-preserved : goal.loop-c-preserved
 loop-c-preserved g c = record {
-  same = c.check_catcher.ensures.kept ∙ c.loop-c.invariant.same;
+  same = c.in_ok-check_catcher.ensures.kept ∙ c.loop-c.invariant.same;
   rest = λ q s.
       after_mapped (catcher_step (body_of c.args.names.now c.args.body.now)) (walk_catcher q) c.args.catchers.now c.loop-c.c-index c.c-item.result (catchers_of c.loop-c.so_far) (catchers_of c.check_catcher.new.so_far) _
       (omega (arith, c.loop-c-test.true)) c.c-item.is

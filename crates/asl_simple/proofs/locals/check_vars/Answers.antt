@@ -12,8 +12,8 @@ use Rattle.asl_written.specs.WrittenViews.{written_of}
 use Rattle.asl_blocks.specs.private.Views.{body_of}
 use Rattle.asl_simple.proofs.locals.check_vars.Goals as goal
 
-pub returns-clause-rule : goal.returns-clause-rule
-returns-clause-rule c = λ t s.
+pub returns : goal.returns
+returns c = λ t s.
     let span = c.args.span in
     let is = c.args.idents.now in
     let at = (found_type t c.args.ty.now).span in
@@ -21,7 +21,7 @@ returns-clause-rule c = λ t s.
     let W = written_of c.in_ok-written.written in
     let names = c.declare_vars.new.names in
     ap (λ r. r >>= λ W. vars_declared span is at W G) (ap (λ H. written t c.args.ty.now false H) (sym c.context.ensures) ∙ c.in_ok-written.ensures t s)
-    ∙ ap (λ r. r >>= λ names. Ok (done names Pure (tree.DeclareFirst span (length is) at W.shape (trees_from W.sizes)))) c.in_ok-declare_vars.ensures.rule
+    ∙ ap (λ r. r >>= λ names. Ok (done names Pure (tree.DeclareFirst span (length is) at W.shape (trees_from W.sizes)))) c.in_ok-declare_vars.ensures
     ∙ ap Ok (
     (λ i. done names Pure (tree.DeclareFirst span (length is) (sym (c.type_place.ensures t) i) (type_of (sym c.into_parts-ty_written.ensures i).1) (all_trees (sym c.into_parts-ty_written.ensures i).2)))
     ∙ sym (c.simply.ensures names))

@@ -1,7 +1,6 @@
 use Rattle.std.proofs.Common.{◌≡◌, ◌+◌, ◌*◌, [], drop, map}
 use Rattle.asl_rules.specs.declared.effect.Effect.TheVariants.{Pure}
 use Rattle.asl_rules.specs.Tests.{Tests}
-use Rattle.asl_types.specs.private.Fronts.{IsFront}
 use Rattle.asl_types.specs.Suits.{Suits}
 use Rattle.asl_tree.specs.Acts.{act_of}
 use Rattle.asl_blocks.specs.private.Sizes.{stmt_size, stmts_size}
@@ -20,9 +19,6 @@ abbrev pub decreases-check_block : goal.decreases-check_block
 decreases-check_block l = 3 * stmts_size l.stmts.now + 2
 
 abbrev pub invariant-check_list-loop-s : goal.invariant-check_list-loop-s
-invariant-check_list-loop-s l = record {
-  rule : (t : Tests) → Suits t →
-      after (stmt_step (body_of l.fn.names l.body)) (map (walk_stmt t) (drop l.s-index l.stmts)) (listing l.names l.effect (map act_of l.acts))
-      ≡ after (stmt_step (body_of l.fn.names l.body)) (map (walk_stmt t) l.stmts) (listing l.fn.names Pure []);
-  front : IsFront l.fn.names l.names;
-}
+invariant-check_list-loop-s l = (t : Tests) → Suits t →
+    after (stmt_step (body_of l.fn.names l.body)) (map (walk_stmt t) (drop l.s-index l.stmts)) (listing l.names l.effect (map act_of l.acts))
+    ≡ after (stmt_step (body_of l.fn.names l.body)) (map (walk_stmt t) l.stmts) (listing l.fn.names Pure [])

@@ -1,2 +1,0 @@
--- How evaluation is related to runs.
-pub mod Answers

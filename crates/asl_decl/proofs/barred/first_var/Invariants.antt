@@ -1,8 +1,0 @@
-use Rattle.std.proofs.Common.{◌≡◌, drop}
-use Rattle.asl_rules.specs.declarations.Barred.{var_at}
-use Rattle.asl_rules.specs.declarations.UsedNames.{first_said}
-use Rattle.asl_names.specs.private.UseView.{all_uses}
-use Rattle.asl_decl.proofs.barred.first_var.Given as goal
-
-abbrev pub invariant-loop-one : goal.invariant-loop-one
-invariant-loop-one l = first_said (var_at l.names) (all_uses (drop l.one-index l.uses)) ≡ first_said (var_at l.names) (all_uses l.uses)

@@ -1,6 +1,0 @@
-use Rattle.std.proofs.Common.{◌≡◌, [], drop}
-use Rattle.asl_decl.specs.private.Definitions.{once_beside}
-use Rattle.asl_decl.proofs.definitions.is_once_by_places.Given as goal
-
-abbrev pub invariant-loop-place : goal.invariant-loop-place
-invariant-loop-place l = once_beside (drop l.place l.fields) l.place l.firsts ≡ once_beside l.fields 0 []

@@ -1,6 +1,0 @@
-use Rattle.std.proofs.Common.{◌≡◌, [], drop}
-use Rattle.asl_decl.specs.private.Definitions.{labels_after}
-use Rattle.asl_decl.proofs.definitions.labels_in_order.Given as goal
-
-abbrev pub invariant-loop-label : goal.invariant-loop-label
-invariant-loop-label l = labels_after l.names (drop l.label-index l.labels) ≡ labels_after [] l.labels

@@ -1,0 +1,11 @@
+pub mod DefinitionLemmas
+pub mod LibraryNames
+pub mod Marking
+pub mod OnceLemmas
+pub mod PhaseLemmas
+pub mod Places
+pub mod Settling
+pub mod Steps
+pub mod StorageLemmas
+pub mod Taking
+pub mod ValueLemmas
